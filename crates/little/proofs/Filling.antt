@@ -1,0 +1,158 @@
+-- The laws of filling a lent buffer, once for every type of element: what a run of writes has done and has left to do. Assumes nothing.
+use mathlib.Core.Path.{_≡_, refl, sym, ap, _∙_, subst}
+use mathlib.Core.List.{List, [], _∷_, _++_, map, append-assoc, append-nil}
+use Prim.Native.Nat.{ℕ, zero, suc, _+_, _≤_, _<_}
+use native.Mathlib.Nat.{zero-add, add-zero}
+use native.Mathlib.Numerals.{add-one, add-two, add-three}
+use native.Mathlib.Omega.{arith}
+use lib.ListN.{length, take, drop, getD, set, length-append, length-drop, length-set, take-append-drop, drop-of-length-le}
+use lib.Seq.{take-at, drop-at, drop-drop, take-suc-set, drop-set-lt, append-snoc, length-take-le, drop-append-le, drop-cons, sets-eq, getD-take, getD-drop}
+use borrow.Rule.Slice.PartMut.{putMid}
+use Rattle.little.specs.Writing.{writeAt, front, Put}
+
+-- d₀ is to become p, and then what d₀ has past it. In d that is done up to index at, and rest is left to write
+pub record Filled {A : Type 0} (p rest : List A) (at : ℕ) (d d₀ : List A) : Type 0 where
+  pub head : take at d ++ rest ≡ p
+  pub tail : drop at d ≡ drop at d₀
+  pub long : length d ≡ length d₀
+  pub room : at ≤ length d
+
+module _ {A : Type 0} where
+  head-long : (d : List A) (at : ℕ) (ys : List A) → at ≤ length d → length (take at d ++ ys) ≡ at + length ys
+  head-long d at ys h = length-append (take at d) ys ∙ ap (λ (k : ℕ). k + length ys) (length-take-le at d h)
+
+  drop-more : (d d₀ : List A) (at k : ℕ) → drop at d ≡ drop at d₀ → drop (at + k) d ≡ drop (at + k) d₀
+  drop-more d d₀ at k e = sym (drop-drop k at d) ∙ ap (drop k) e ∙ drop-drop k at d₀
+
+  -- ---- one write
+  pub length-write : (d : List A) (at : ℕ) (ys : List A) → at + length ys ≤ length d → length (writeAt d at ys) ≡ length d
+  unfolding writeAt
+  length-write d at ys h =
+      length-append (take at d ++ ys) (drop (at + length ys) d)
+      ∙ omega (arith, head-long d at ys (omega arith), length-drop (at + length ys) d)
+
+  pub put-long : {d ys e : List A} {at : ℕ} → Put d at ys e → at + length ys ≤ length d → length e ≡ length d
+  put-long {d} {ys} {e} {at} p h = ap length (p .same) ∙ length-write d at ys h
+
+  -- at index 0
+  pub put-front : {d ys e : List A} → Put d 0 ys e → e ≡ front ys d
+  unfolding writeAt front
+  put-front {d} {ys} p = p .same ∙ ap (λ (k : ℕ). ys ++ drop k d) (zero-add (length ys))
+
+  -- two and four stores in a row
+  pub two-stores : {d : List A} {at : ℕ} {x y : A} → at + 2 ≤ length d → Put d at (x ∷ y ∷ []) (set (set d at x) (at + 1) y)
+  unfolding writeAt
+  two-stores {d} {at} {x} {y} h = record { same = rw (add-one at) (sets-eq (x ∷ y ∷ []) d at h) }
+
+  pub four-stores : {d : List A} {at : ℕ} {x y z w : A} → at + 4 ≤ length d → Put d at (x ∷ y ∷ z ∷ w ∷ []) (set (set (set (set d at x) (at + 1) y) (at + 2) z) (at + 3) w)
+  unfolding writeAt
+  four-stores {d} {at} {x} {y} {z} {w} h = record { same = rw (add-one at, add-two at, add-three at) (sets-eq (x ∷ y ∷ z ∷ w ∷ []) d at h) }
+
+  -- ---- a run of writes
+  -- nothing is written yet; the writing starts at index at
+  pub filled-none : {d ys : List A} {at : ℕ} → at ≤ length d → Filled (take at d ++ ys) ys at d d
+  filled-none h = record { head = refl; tail = refl; long = refl; room = h }
+
+  -- a piece ys is written at index at
+  pub filled-piece : {p rest rest′ ys d e d₀ : List A} {at at′ : ℕ} → Filled p rest at d d₀ → Put d at ys e → rest ≡ ys ++ rest′ → at′ ≡ at + length ys → at′ ≤ length d → Filled p rest′ at′ e d₀
+  unfolding writeAt
+  filled-piece {p} {rest} {rest′} {ys} {d} {e} {d₀} {at} {at′} f w r n h =
+      let q : List A = take at d ++ ys in
+      let z : List A = drop (at + length ys) d in
+      let l : length q ≡ at′ = head-long d at ys (f .room) ∙ sym n in
+      let g : length e ≡ length d = put-long w (omega arith) in
+      record {
+        head = ap (λ (m : List A). take at′ m ++ rest′) (w .same) ∙ ap (λ (m : List A). m ++ rest′) (take-at q z at′ l) ∙ append-assoc (take at d) ys rest′ ∙ ap (λ (m : List A). take at d ++ m) (sym r) ∙ f .head;
+        tail = ap (drop at′) (w .same) ∙ drop-at q z at′ l ∙ drop-more d d₀ at (length ys) (f .tail) ∙ ap (λ (k : ℕ). drop k d₀) (sym n);
+        long = g ∙ f .long;
+        room = omega arith;
+      }
+
+  -- one element v is stored at index at
+  pub filled-store : {p rest rest′ d d₀ : List A} {at at′ : ℕ} {v : A} → Filled p rest at d d₀ → rest ≡ v ∷ rest′ → at < length d → at′ ≡ at + 1 → Filled p rest′ at′ (set d at v) d₀
+  filled-store {p} {rest} {rest′} {d} {d₀} {at} {at′} {v} f e h n =
+      let m : at′ ≡ suc at = n ∙ add-one at in
+      record {
+        head = ap (λ (k : ℕ). take k (set d at v) ++ rest′) m ∙ ap (λ (l : List A). l ++ rest′) (take-suc-set d at v h) ∙ append-snoc (take at d) v rest′ ∙ ap (λ (l : List A). take at d ++ l) (sym e) ∙ f .head;
+        tail = drop-set-lt at′ d at v (omega arith) ∙ subst (λ (k : ℕ). drop k d ≡ drop k d₀) (sym n) (drop-more d d₀ at 1 (f .tail));
+        long = length-set d at v ∙ f .long;
+        room = omega (arith, length-set d at v);
+      }
+
+  -- nothing is left
+  pub filled-all : {p d d₀ : List A} {at : ℕ} → Filled p [] at d d₀ → d ≡ front p d₀
+  unfolding front
+  filled-all {p} {d} {d₀} {at} f =
+      let w : take at d ≡ p = sym (append-nil (take at d)) ∙ f .head in
+      let n : at ≡ length p = sym (length-take-le at d (f .room)) ∙ ap length w in
+      sym (take-append-drop at d) ∙ ap (λ (l : List A). l ++ drop at d) w ∙ ap (λ (l : List A). p ++ l) (f .tail) ∙ ap (λ (k : ℕ). p ++ drop k d₀) n
+
+  -- the same where the writing started at index a
+  pub filled-put : {ys d d₀ : List A} {a at : ℕ} → Filled (take a d₀ ++ ys) [] at d d₀ → a ≤ length d₀ → Put d₀ a ys d
+  unfolding front writeAt
+  filled-put {ys} {d} {d₀} {a} f h = record { same = filled-all f ∙ ap (λ (k : ℕ). take a d₀ ++ ys ++ drop k d₀) (head-long d₀ a ys h) }
+
+  -- ---- what a loop reads: a part of n elements from index x, and the next element from index i on
+  pub part-long : (s : List A) (x n : ℕ) → x + n ≤ length s → length (take n (drop x s)) ≡ n
+  part-long s x n h = length-take-le n (drop x s) (omega (arith, length-drop x s))
+
+  pub part-at : (s : List A) (x n i : ℕ) (z : A) → i < n → getD (take n (drop x s)) i z ≡ getD s (x + i) z
+  part-at s x n i z h = getD-take n (drop x s) i z h ∙ getD-drop x s i z
+
+  pub drop-next : (s : List A) (i : ℕ) (z : A) → i < length s → drop i s ≡ getD s i z ∷ drop (i + 1) s
+  drop-next s i z h = drop-cons s i z h ∙ ap (λ (k : ℕ). getD s i z ∷ drop k s) (sym (add-one i))
+
+-- ---- ys goes to index at of d₀; in d its first i elements are written
+pub record Written {A : Type 0} (ys : List A) (at i : ℕ) (d d₀ : List A) : Type 0 where
+  pub room : at + length ys ≤ length d₀
+  pub upto : i ≤ length ys
+  pub filled : Filled (take at d₀ ++ ys) (drop i ys) (at + i) d d₀
+
+module _ {A : Type 0} where
+  pub write-begins : {ys d : List A} {at : ℕ} → at + length ys ≤ length d → Written ys at 0 d d
+  write-begins {at = at} h = record { room = h; upto = omega arith; filled = rw (add-zero at) (filled-none (omega arith)) }
+
+module _ {A : Type 0} {ys d d₀ : List A} {at i : ℕ} (w : Written ys at i d d₀) where
+  pub write-room : i < length ys → at + i < length d
+  write-room h = omega (arith, w .room, w .filled .long)
+
+  -- one element more
+  pub write-next : {v : A} (z : A) → i < length ys → v ≡ getD ys i z → Written ys at (i + 1) (set d (at + i) v) d₀
+  write-next z h e =
+      record {
+        room = w .room;
+        upto = omega arith;
+        filled = filled-store (w .filled) (drop-next ys i z h ∙ ap (λ (x : A). x ∷ drop (i + 1) ys) (sym e)) (write-room h) (omega arith);
+      }
+
+  -- a piece xs more, up to index j
+  pub write-piece : {xs e : List A} {j : ℕ} → Put d (at + i) xs e → drop i ys ≡ xs ++ drop j ys → j ≡ i + length xs → j ≤ length ys → Written ys at j e d₀
+  write-piece {j = j} p r n h =
+      record { room = w .room; upto = h; filled = filled-piece (w .filled) p r (omega arith) (omega (arith, w .room, w .filled .long)) }
+
+  pub write-ends : length ys ≤ i → Put d₀ at ys d
+  write-ends h = filled-put (subst (λ (l : List A). Filled (take at d₀ ++ ys) l (at + i) d d₀) (drop-of-length-le ys h) (w .filled)) (omega (arith, w .room))
+
+  -- the next element as it stands
+  pub copy-next : (z : A) → i < length ys → Written ys at (i + 1) (set d (at + i) (getD ys i z)) d₀
+  copy-next z h = write-next z h refl
+
+pub ruleset copying = (write-begins, write-room, copy-next, write-ends)
+
+-- the same from the start of a buffer
+module _ {A : Type 0} where
+  pub front-begins : {ys d : List A} → length ys ≤ length d → Written ys 0 0 d d
+  front-begins h = write-begins (omega arith)
+
+module _ {A : Type 0} {ys d d₀ : List A} {i : ℕ} (w : Written ys 0 i d d₀) where
+  pub front-room : i < length ys → i < length d
+  front-room h = omega (arith, write-room w h)
+
+  pub front-next : {v : A} (z : A) → i < length ys → v ≡ getD ys i z → Written ys 0 (i + 1) (set d i v) d₀
+  front-next {v} z h e = subst (λ (k : ℕ). Written ys 0 (i + 1) (set d k v) d₀) (zero-add i) (write-next w z h e)
+
+  pub front-piece : {xs e : List A} {j : ℕ} → Put d i xs e → drop i ys ≡ xs ++ drop j ys → j ≡ i + length xs → j ≤ length ys → Written ys 0 j e d₀
+  front-piece {xs} {e} p = write-piece w (subst (λ (k : ℕ). Put d k xs e) (sym (zero-add i)) p)
+
+  pub front-ends : length ys ≤ i → d ≡ front ys d₀
+  front-ends h = put-front (write-ends w h)

@@ -1,0 +1,114 @@
+-- Laws of little-endian numbers, for every width: a number is its first byte and the rest, and reading back what was put gives it
+-- again. Assumes nothing.
+use mathlib.Core.Path.{_≡_, refl, sym, ap, _∙_}
+use mathlib.Core.Bool.{true, false}
+use mathlib.Core.List.{List, [], _∷_, _++_, append-assoc}
+use Prim.Native.Nat.{ℕ, zero, suc, _+_, _*_, _/_, _%_, _^_, _≤_, _<_}
+use native.Mathlib.Nat.{pow-suc, div-lt-iff-lt-mul}
+use native.Mathlib.Numerals.{add-one, add-two, add-three}
+use native.Mathlib.Omega.{arith}
+use lib.Dec.{T, ltb, ltb→lt, lit<}
+use lib.Pow.{areBytes}
+use lib.ListN.{length, take, drop, getD, set, List·getD-eq-default, drop-of-length-le, length-set}
+use lib.Seq.{take-nil, take-at, drop-at, drop-drop, drop-append-add, length-take-le, take-take}
+use mir.Facts.{and-yes}
+use Rattle.little.specs.Numbers.{numberIn, numberAt, bytesOf}
+use Rattle.little.specs.Writing.{writeAt, Put}
+use Rattle.little.proofs.Filling.{two-stores, four-stores}
+
+-- one byte more in front
+pub number-more : (n : ℕ) (s : List ℕ) (at : ℕ) → numberAt (suc n) s at ≡ getD s at 0 + 256 * numberAt n s (suc at)
+unfolding numberAt numberIn
+number-more zero [] zero = refl
+number-more (suc n) [] zero = refl
+number-more zero [] (suc at) = refl
+number-more (suc n) [] (suc at) = refl
+number-more n (x ∷ s) zero = refl
+number-more n (x ∷ s) (suc at) = number-more n s at
+
+pub number-none : (s : List ℕ) (at : ℕ) → numberAt 0 s at ≡ 0
+unfolding numberAt numberIn
+number-none s at = refl
+
+-- in the words of the code: two bytes and four, read one by one, and a place past the end
+module _ (s : List ℕ) (at : ℕ) where
+  pub two-bytes : {x y : ℕ} → x ≡ getD s at 0 → y ≡ getD s (at + 1) 0 → x + 256 * y ≡ numberAt 2 s at
+  two-bytes e f =
+      let f′ = rw (add-one at) at f in
+      omega (arith, number-more 1 s at, number-more 0 s (suc at), number-none s (suc (suc at)))
+
+  pub four-bytes : {x y z w : ℕ} → x ≡ getD s at 0 → y ≡ getD s (at + 1) 0 → z ≡ getD s (at + 2) 0 → w ≡ getD s (at + 3) 0 → x + 256 * y + 65536 * z + 16777216 * w ≡ numberAt 4 s at
+  four-bytes e f g h =
+      let f′ = rw (add-one at) at f in
+      let g′ = rw (add-two at) at g in
+      let h′ = rw (add-three at) at h in
+      omega (arith, number-more 3 s at, number-more 2 s (suc at), number-more 1 s (suc (suc at)), number-more 0 s (suc (suc (suc at))), number-none s (suc (suc (suc (suc at)))))
+
+  pub byte-past : length s ≤ at → 0 ≡ getD s at 0
+  byte-past h = sym (List·getD-eq-default s 0 h)
+
+  pub number-past : (n : ℕ) → length s ≤ at → 0 ≡ numberAt n s at
+  unfolding numberAt numberIn
+  number-past n h = sym (ap (λ (l : List ℕ). numberIn (take n l)) (drop-of-length-le s h) ∙ ap numberIn (take-nil n))
+
+-- ---- a number and its bytes
+pub length-bytes : (n v : ℕ) → length (bytesOf n v) ≡ n
+unfolding bytesOf
+length-bytes zero v = refl
+length-bytes (suc n) v = ap suc (length-bytes n (v / 256))
+
+pub bytes-say : (n v : ℕ) → v < 256 ^ n → numberIn (bytesOf n v) ≡ v
+unfolding numberIn bytesOf
+bytes-say zero v h = omega arith
+bytes-say (suc n) v h =
+    let e = bytes-say n (v / 256) (div-lt-iff-lt-mul (lit< tt) .1 (rw pow-suc at h)) in
+    omega arith
+
+-- the other way: the bytes of the number that bytes say
+pub said-bytes : (bs : List ℕ) → T (areBytes bs) → bytesOf (length bs) (numberIn bs) ≡ bs
+unfolding numberIn bytesOf
+said-bytes [] t = refl
+said-bytes (b ∷ bs) t =
+    let h : b < 256 = ltb→lt b 256 (and-yes (ltb b 256) (areBytes bs) t .0) in
+    let l : (b + 256 * numberIn bs) % 256 ≡ b = omega arith in
+    let r : (b + 256 * numberIn bs) / 256 ≡ numberIn bs = omega arith in
+    rw (l, r) (ap (λ (m : List ℕ). b ∷ m) (said-bytes bs (and-yes (ltb b 256) (areBytes bs) t .1)))
+
+-- ---- where a number stands in a list: after a front, in a part, and where it was put
+pub number-after : (n : ℕ) (xs s : List ℕ) (at : ℕ) → numberAt n (xs ++ s) (length xs + at) ≡ numberAt n s at
+unfolding numberAt
+number-after n xs s at = ap (λ (l : List ℕ). numberIn (take n l)) (drop-append-add xs s at)
+
+pub number-dropped : (n : ℕ) (s : List ℕ) (from at : ℕ) → numberAt n (drop from s) at ≡ numberAt n s (from + at)
+unfolding numberAt
+number-dropped n s from at = ap (λ (l : List ℕ). numberIn (take n l)) (drop-drop at from s)
+
+pub number-first : (n v : ℕ) (s : List ℕ) → v < 256 ^ n → numberAt n (bytesOf n v ++ s) 0 ≡ v
+unfolding numberAt
+number-first n v s h = ap numberIn (take-at (bytesOf n v) s n (length-bytes n v)) ∙ bytes-say n v h
+
+pub number-put : (n : ℕ) {d e : List ℕ} {at : ℕ} (v : ℕ) → Put d at (bytesOf n v) e → at + n ≤ length d → v < 256 ^ n → numberAt n e at ≡ v
+unfolding numberAt writeAt
+number-put n {d} {e} {at} v p h g =
+    let bs : List ℕ = bytesOf n v in
+    let r : List ℕ = drop (at + length bs) d in
+    let l : drop at e ≡ bs ++ r =
+    ap (drop at) (p .same ∙ append-assoc (take at d) bs r) ∙ drop-at (take at d) (bs ++ r) at (length-take-le at d (omega arith)) in
+    ap (λ (m : List ℕ). numberIn (take n m)) l ∙ number-first n v r g
+
+-- in the words of the code: the stores of two bytes and of four
+module _ {d : List ℕ} {at : ℕ} (v : ℕ) where
+  pub put-two : at + 2 ≤ length d → Put d at (bytesOf 2 v) (set (set d at (v % 256)) (at + 1) (v / 256 % 256))
+  unfolding bytesOf
+  put-two h = two-stores h
+
+  pub put-four : at + 4 ≤ length d → Put d at (bytesOf 4 v) (set (set (set (set d at (v % 256)) (at + 1) (v / 256 % 256)) (at + 2) (v / 65536 % 256)) (at + 3) (v / 16777216 % 256))
+  unfolding bytesOf
+  put-four h =
+      let e : v / 65536 ≡ v / 256 / 256 = omega arith in
+      let f : v / 16777216 ≡ v / 256 / 256 / 256 = omega arith in
+      rw (e, f) (four-stores h)
+
+pub ruleset reading = (two-bytes, four-bytes, byte-past, number-past)
+
+pub ruleset putting = (put-two, put-four, length-set)

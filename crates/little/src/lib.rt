@@ -1,0 +1,100 @@
+// Little-endian numbers read from bytes and put into them, and a run of bytes copied to a place.
+//
+// `u16_at` and `u32_at` are for callers that have tested the room; `u16_or_zero` and `u32_or_zero`
+// take every place, and what lies past the end counts as 0.
+ghost use mathlib.Core.Path.{_≡_};
+ghost use Prim.Native.Nat.{_+_, _≤_, _<_};
+ghost use lib.ListN.{length, getD};
+ghost use Rattle.little.specs.Numbers.{numberAt, bytesOf};
+ghost use Rattle.little.specs.Writing.{Put};
+
+// A byte as a wider number, with the bound that sums of bytes want.
+fn wide(byte: u8) -> u32
+    ensures { λ r. ⌜ (r ≡ byte) × (r < 256) ⌝ }
+{
+    byte as u32
+}
+
+// The 16-bit number at a place.
+pub fn u16_at(bytes: &[u8], at: usize) -> u16
+    requires { ⌜ at + 2 ≤ length (now bytes) ⌝ }
+    ensures { λ r. ⌜ r ≡ numberAt 2 (now (bytes .entry)) at ⌝ }
+{
+    (wide(bytes[at]) + 256 * wide(bytes[at + 1])) as u16
+}
+
+// The 32-bit number at a place.
+pub fn u32_at(bytes: &[u8], at: usize) -> u32
+    requires { ⌜ at + 4 ≤ length (now bytes) ⌝ }
+    ensures { λ r. ⌜ r ≡ numberAt 4 (now (bytes .entry)) at ⌝ }
+{
+    wide(bytes[at])
+        + 256 * wide(bytes[at + 1])
+        + 65536 * wide(bytes[at + 2])
+        + 16777216 * wide(bytes[at + 3])
+}
+
+// The byte at a place, 0 past the end.
+fn byte_or_zero(bytes: &[u8], at: usize) -> u32
+    ensures { λ r. ⌜ (r ≡ getD (now (bytes .entry)) at 0) × (r < 256) ⌝ }
+{
+    if at < bytes.len() {
+        return wide(bytes[at]);
+    }
+    0
+}
+
+// The 16-bit number at any place.
+pub fn u16_or_zero(bytes: &[u8], at: usize) -> u16
+    ensures { λ r. ⌜ r ≡ numberAt 2 (now (bytes .entry)) at ⌝ }
+{
+    if bytes.len() <= at {
+        return 0;
+    }
+    (byte_or_zero(bytes, at) + 256 * byte_or_zero(bytes, at + 1)) as u16
+}
+
+// The 32-bit number at any place.
+pub fn u32_or_zero(bytes: &[u8], at: usize) -> u32
+    ensures { λ r. ⌜ r ≡ numberAt 4 (now (bytes .entry)) at ⌝ }
+{
+    if bytes.len() <= at {
+        return 0;
+    }
+    byte_or_zero(bytes, at)
+        + 256 * byte_or_zero(bytes, at + 1)
+        + 65536 * byte_or_zero(bytes, at + 2)
+        + 16777216 * byte_or_zero(bytes, at + 3)
+}
+
+// Puts a 16-bit number at a place.
+pub fn put_u16(out: &mut [u8], at: usize, value: u16)
+    requires { ⌜ at + 2 ≤ length (now out) ⌝ }
+    ensures { λ _. ⌜ Put (now (out .entry)) at (bytesOf 2 value) (now (out .exit)) ⌝ }
+{
+    out[at] = (value % 256) as u8;
+    out[at + 1] = (value / 256 % 256) as u8;
+}
+
+// Puts a 32-bit number at a place.
+pub fn put_u32(out: &mut [u8], at: usize, value: u32)
+    requires { ⌜ at + 4 ≤ length (now out) ⌝ }
+    ensures { λ _. ⌜ Put (now (out .entry)) at (bytesOf 4 value) (now (out .exit)) ⌝ }
+{
+    out[at] = (value % 256) as u8;
+    out[at + 1] = (value / 256 % 256) as u8;
+    out[at + 2] = (value / 65536 % 256) as u8;
+    out[at + 3] = (value / 16777216 % 256) as u8;
+}
+
+// Copies a run of bytes to a place.
+pub fn put_bytes(out: &mut [u8], at: usize, bytes: &[u8])
+    requires { ⌜ at + length (now bytes) ≤ length (now out) ⌝ }
+    ensures { λ _. ⌜ Put (now (out .entry)) at (now (bytes .entry)) (now (out .exit)) ⌝ }
+{
+    let mut i = 0;
+    while i < bytes.len() {
+        out[at + i] = bytes[i];
+        i += 1;
+    }
+}

@@ -1,0 +1,125 @@
+// Prints the bytes on standard input (at most 64) as 16-bit and as 8-bit sound and the sound's bytes
+// again, numbers held to 16 bits, and for all 65,536 samples and all 256 values of 8-bit sound one
+// number that is mixed of them in order.
+ghost use Prim.Native.Nat.{_<_};
+use libc::STDIN_FILENO;
+
+// One number more, mixed into those before it. 1,000,003 is a prime.
+fn mixed(before: u64, value: u64) -> u64
+    requires { ⌜ before < 1000003 ⌝ }
+    ensures { λ r. ⌜ r < 1000003 ⌝ }
+{
+    (before * 31 + value % 65536) % 1000003
+}
+
+// A sample as a number from 0 on.
+fn raised(sample: i16) -> u64 {
+    (sample as i32 + 32768) as u64
+}
+
+fn all_samples() {
+    let mut signed: u64 = 0;
+    let mut back: u64 = 0;
+    for bits in 0u32..65536 {
+        let sample = samples::from_bits(bits as u16);
+        signed = mixed(signed, raised(sample));
+        back = mixed(back, samples::to_bits(sample) as u64);
+    }
+    show::word(b"all samples ");
+    show::number(signed);
+    show::word(b" their bits ");
+    show::number(back);
+    show::line();
+}
+
+fn all_eights() {
+    let mut number: u64 = 0;
+    for value in 0u32..256 {
+        number = mixed(number, raised(samples::from_eight(value as u8)));
+    }
+    show::word(b"all values of 8 bits ");
+    show::number(number);
+    show::line();
+}
+
+fn sixteen(bytes: &[u8], out: &mut [i16]) {
+    if out.len() < bytes.len() / 2 {
+        return;
+    }
+    samples::from_pcm16(bytes, out);
+    show::word(b"sixteen");
+    show::sound(out);
+    show::line();
+}
+
+fn eight(bytes: &[u8], out: &mut [i16]) {
+    if out.len() < bytes.len() {
+        return;
+    }
+    samples::from_pcm8(bytes, out);
+    show::word(b"eight");
+    show::sound(out);
+    show::line();
+}
+
+fn bytes_of(sound: &[i16], out: &mut [u8]) {
+    if out.len() / 2 < sound.len() {
+        return;
+    }
+    samples::to_pcm16(sound, out);
+    show::word(b"bytes");
+    show::bytes(out);
+    show::line();
+}
+
+fn one(bytes: &[u8], at: usize, out: &mut [u8]) {
+    if bytes.len() < 2 {
+        return;
+    }
+    if bytes.len() - 2 < at {
+        return;
+    }
+    if out.len() < 5 {
+        return;
+    }
+    let sample = samples::sample_at(bytes, at);
+    samples::put_sample(out, 3, sample);
+    show::word(b"one ");
+    show::sample(sample);
+    show::bytes(out);
+    show::line();
+}
+
+fn held(text: &[u8], value: i32) {
+    show::word(b"held ");
+    show::word(text);
+    show::word(b" ");
+    show::sample(samples::held(value));
+    show::line();
+}
+
+fn main() {
+    let mut buffer = [0u8; 64];
+    let n = io::read_full(STDIN_FILENO, &mut buffer);
+    let mut short = [7i16; 40];
+    sixteen(&buffer[..n], &mut short);
+    let mut long = [7i16; 70];
+    eight(&buffer[..n], &mut long);
+    let mut back = [170u8; 85];
+    bytes_of(&short, &mut back);
+    let mut five = [170u8; 6];
+    one(&buffer[..n], 5, &mut five);
+    held(b"-2147483648", -2147483648);
+    held(b"-32769", -32769);
+    held(b"-32768", -32768);
+    held(b"-32767", -32767);
+    held(b"-1", -1);
+    held(b"0", 0);
+    held(b"1", 1);
+    held(b"32766", 32766);
+    held(b"32767", 32767);
+    held(b"32768", 32768);
+    held(b"2147483647", 2147483647);
+    all_samples();
+    all_eights();
+}

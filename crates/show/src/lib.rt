@@ -1,0 +1,54 @@
+// What the programs print on standard output: words, numbers and bytes. A program puts a line
+// together of these, one fact to a line.
+use libc::STDOUT_FILENO;
+
+// Words, as they stand.
+pub fn word(text: &[u8]) {
+    io::write_all(STDOUT_FILENO, text);
+}
+
+// The end of a line.
+pub fn line() {
+    io::write_all(STDOUT_FILENO, b"\n");
+}
+
+// A number in decimal digits.
+pub fn number(value: u64) {
+    io::print_decimal(STDOUT_FILENO, value);
+}
+
+// A sample in decimal digits, with a minus sign below zero.
+pub fn sample(value: i16) {
+    let wide = value as i32;
+    if wide < 0 {
+        word(b"-");
+        number((0 - wide) as u64);
+        return;
+    }
+    number(wide as u64);
+}
+
+// A byte as a wider number.
+fn wide(byte: u8) -> u64 {
+    byte as u64
+}
+
+// Bytes in hexadecimal, each as two digits after a blank.
+pub fn bytes(values: &[u8]) {
+    let mut i = 0;
+    while i < values.len() {
+        word(b" ");
+        io::print_hex(STDOUT_FILENO, wide(values[i]), 2);
+        i += 1;
+    }
+}
+
+// Samples in decimal digits, each after a blank.
+pub fn sound(values: &[i16]) {
+    let mut i = 0;
+    while i < values.len() {
+        word(b" ");
+        sample(values[i]);
+        i += 1;
+    }
+}

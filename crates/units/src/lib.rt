@@ -1,0 +1,68 @@
+// The three units, and the twenty reasons to refuse.
+//
+// A count of frames, a place in bytes and the number of a donated song are three types, so that
+// none is taken for another. A refusal has the number of document 01's table, and `number` is the
+// one place that says which.
+ghost use mathlib.Core.Path.{_≡_};
+ghost use Rattle.units.specs.Refusals.{numberOf};
+
+// A number of frames: one sample of each channel is a frame.
+pub struct Frames(pub u32);
+
+// A place in a file or a buffer, or a length of one, counted in bytes.
+pub struct BytePlace(pub usize);
+
+// The number under which a song was donated; cues and playlist entries are named by it.
+pub struct Donation(pub u32);
+
+// Why an input is refused, in the order of document 01's table.
+pub enum Refusal {
+    LengthOutOfRange,
+    NotWave,
+    RiffSizeWrong,
+    ChunkPastTheEnd,
+    SecondOfItsKind,
+    DataBeforeFormat,
+    WaveList,
+    FormatOrDataMissing,
+    FormatWrong,
+    NotWholeFrames,
+    FactWrong,
+    CuesWrong,
+    PlaylistWrong,
+    OutputTooSmall,
+    BlockHeaderWrong,
+    SongEmptyOrDifferent,
+    NoPlaceOnSide,
+    AlreadyListed,
+    NotASide,
+    NoSuchBlock,
+}
+
+// The number of a refusal.
+pub fn number(refusal: Refusal) -> u8
+    ensures { λ r. ⌜ r ≡ numberOf refusal ⌝ }
+{
+    match refusal {
+        Refusal::LengthOutOfRange => 1,
+        Refusal::NotWave => 2,
+        Refusal::RiffSizeWrong => 3,
+        Refusal::ChunkPastTheEnd => 4,
+        Refusal::SecondOfItsKind => 5,
+        Refusal::DataBeforeFormat => 6,
+        Refusal::WaveList => 7,
+        Refusal::FormatOrDataMissing => 8,
+        Refusal::FormatWrong => 9,
+        Refusal::NotWholeFrames => 10,
+        Refusal::FactWrong => 11,
+        Refusal::CuesWrong => 12,
+        Refusal::PlaylistWrong => 13,
+        Refusal::OutputTooSmall => 14,
+        Refusal::BlockHeaderWrong => 15,
+        Refusal::SongEmptyOrDifferent => 16,
+        Refusal::NoPlaceOnSide => 17,
+        Refusal::AlreadyListed => 18,
+        Refusal::NotASide => 19,
+        Refusal::NoSuchBlock => 20,
+    }
+}

@@ -1,0 +1,116 @@
+#!/usr/bin/env python3
+"""What the vector programs read and must print, worked out from document 01 and Python's struct.
+
+    tests/vectors.py            compares with crates/NAME/stdin and crates/NAME/stdout
+    tests/vectors.py --write    writes those files
+
+Nothing here is taken from a run of the programs.
+"""
+import pathlib
+import struct
+import sys
+
+CRATES = pathlib.Path(__file__).resolve().parent.parent / 'crates'
+
+# Document 01, "Refusal numbers", row by row.
+REFUSALS = """\
+1 length under 12 or over the limit
+2 bytes 0-3 not `RIFF` or 8-11 not `WAVE`
+3 RIFF size R is odd, or 8+R is not the length
+4 a chunk's header, or its data with pad, passes the end
+5 a second `fmt `, `data`, `fact`, `cue ` or `plst`
+6 `data` before any `fmt `
+7 a `LIST` whose data starts with `wavl`
+8 no `fmt ` or no `data`
+9 channels, rate, tag or any rule of **fmt** below not met
+10 sound data not whole frames or blocks
+11 fact absent where needed, shorter than 4, or count wrong
+12 cue table wrong
+13 playlist wrong
+14 lent output too small
+15 an ADPCM block header holds an index out of range
+16 song without frames, or its number listed with other sound
+17 no place on the side
+18 already listed, same sound: nothing to do
+19 not a side
+20 no such block
+"""
+
+
+def hexed(data):
+    return ''.join(f' {byte:02x}' for byte in data)
+
+
+def units():
+    return b'', REFUSALS + f'frames {2**32 - 1} place {2**64 - 1} donation {2**32 - 1}\n'
+
+
+def little():
+    data = bytes.fromhex('00ff807f0102030405060708f0e1d2c3b4a5968778695aff')
+    padded = data + bytes(30)
+    lines = []
+    for at in list(range(26)) + [2**64 - 1]:
+        if at + 4 <= len(data):
+            small, large = struct.unpack_from('<H', data, at)[0], struct.unpack_from('<I', data, at)[0]
+            lines.append(f'inside {at} u16 {small} u32 {large}')
+        small, large = 0, 0
+        if at < len(data):
+            small, large = struct.unpack_from('<H', padded, at)[0], struct.unpack_from('<I', padded, at)[0]
+        lines.append(f'anywhere {at} u16 {small} u32 {large}')
+    buffer = bytearray([170] * 10)
+    puts = [(10, b''), (3, b'side A'), (6, struct.pack('<I', 305419896)), (0, struct.pack('<I', 4294967295)),
+            (8, struct.pack('<H', 32768)), (1, struct.pack('<H', 258)), (0, bytes.fromhex('00ff01807f0203040506'))]
+    for at, piece in puts:
+        buffer[at:at + len(piece)] = piece
+        lines.append('buffer' + hexed(buffer))
+    return data, '\n'.join(lines) + '\n'
+
+
+def mixed(numbers):
+    result = 0
+    for number in numbers:
+        result = (result * 31 + number) % 1000003
+    return result
+
+
+def samples():
+    borders = [0, 1, -1, 127, 128, -128, -129, 255, 256, -255, -256, -257, 12345, -12345,
+               32766, 32767, -32766, -32767, -32768, 4660]
+    data = struct.pack(f'<{len(borders)}h', *borders) + b'\x99'
+    short = borders + [7] * (40 - len(borders))
+    long = [(value - 128) * 256 for value in data] + [7] * (70 - len(data))
+    one = struct.unpack_from('<h', data, 5)[0]
+    lines = ['sixteen' + ''.join(f' {sample}' for sample in short),
+             'eight' + ''.join(f' {sample}' for sample in long),
+             'bytes' + hexed(struct.pack('<40h', *short) + b'\xaa' * 5),
+             f'one {one}' + hexed(b'\xaa\xaa\xaa' + struct.pack('<h', one) + b'\xaa')]
+    for value in [-2147483648, -32769, -32768, -32767, -1, 0, 1, 32766, 32767, 32768, 2147483647]:
+        lines.append(f'held {value} {max(-32768, min(32767, value))}')
+    every = [struct.unpack('<h', struct.pack('<H', bits))[0] for bits in range(65536)]
+    lines.append(f'all samples {mixed(sample + 32768 for sample in every)} their bits {mixed(range(65536))}')
+    lines.append(f'all values of 8 bits {mixed((value - 128) * 256 + 32768 for value in range(256))}')
+    return data, '\n'.join(lines) + '\n'
+
+
+def main():
+    write = sys.argv[1:] == ['--write']
+    if sys.argv[1:] and not write:
+        sys.exit(__doc__)
+    wrong = 0
+    for make in (units, little, samples):
+        crate = CRATES / f'{make.__name__}_vectors'
+        data, expected = make()
+        for name, content in (('stdin', data), ('stdout', expected.encode())):
+            path = crate / name
+            if name == 'stdin' and not content:
+                continue
+            if write:
+                path.write_bytes(content)
+            elif not path.exists() or path.read_bytes() != content:
+                print(f'tests/vectors.py: {path.relative_to(CRATES.parent)} is not what document 01 and Python give')
+                wrong += 1
+    sys.exit(1 if wrong else 0)
+
+
+if __name__ == '__main__':
+    main()
