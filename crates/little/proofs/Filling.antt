@@ -1,13 +1,12 @@
 -- The laws of filling a lent buffer, once for every type of element: what a run of writes has done and has left to do. Assumes nothing.
 use mathlib.Core.Path.{_≡_, refl, sym, ap, _∙_, subst}
-use mathlib.Core.List.{List, [], _∷_, _++_, map, append-assoc, append-nil}
-use Prim.Native.Nat.{ℕ, zero, suc, _+_, _≤_, _<_}
+use mathlib.Core.List.{List, [], _∷_, _++_, append-assoc, append-nil}
+use Prim.Native.Nat.{ℕ, suc, _+_, _≤_, _<_}
 use native.Mathlib.Nat.{zero-add, add-zero}
 use native.Mathlib.Numerals.{add-one, add-two, add-three}
 use native.Mathlib.Omega.{arith}
 use lib.ListN.{length, take, drop, getD, set, length-append, length-drop, length-set, take-append-drop, drop-of-length-le}
-use lib.Seq.{take-at, drop-at, drop-drop, take-suc-set, drop-set-lt, append-snoc, length-take-le, drop-append-le, drop-cons, sets-eq, getD-take, getD-drop}
-use borrow.Rule.Slice.PartMut.{putMid}
+use lib.Seq.{take-at, take-append-seam, drop-at, drop-drop, take-suc-set, drop-set-lt, append-snoc, length-take-le, drop-cons, sets-eq, getD-take, getD-drop}
 use Rattle.little.specs.Writing.{writeAt, front, Put}
 
 -- d₀ is to become p, and then what d₀ has past it. In d that is done up to index at, and rest is left to write
@@ -33,6 +32,15 @@ module _ {A : Type 0} where
 
   pub put-long : {d ys e : List A} {at : ℕ} → Put d at ys e → at + length ys ≤ length d → length e ≡ length d
   put-long {d} {ys} {e} {at} p h = ap length (p .same) ∙ length-write d at ys h
+
+  -- what was written is there
+  pub put-part : {d ys e : List A} {at : ℕ} → Put d at ys e → at ≤ length d → take (length ys) (drop at e) ≡ ys
+  unfolding writeAt
+  put-part {d} {ys} {e} {at} p h =
+      let r : List A = drop (at + length ys) d in
+      ap (λ (m : List A). take (length ys) (drop at m)) (p .same ∙ append-assoc (take at d) ys r)
+      ∙ ap (take (length ys)) (drop-at (take at d) (ys ++ r) at (length-take-le at d h))
+      ∙ take-append-seam ys r
 
   -- at index 0
   pub put-front : {d ys e : List A} → Put d 0 ys e → e ≡ front ys d
@@ -91,6 +99,12 @@ module _ {A : Type 0} where
   pub filled-put : {ys d d₀ : List A} {a at : ℕ} → Filled (take a d₀ ++ ys) [] at d d₀ → a ≤ length d₀ → Put d₀ a ys d
   unfolding front writeAt
   filled-put {ys} {d} {d₀} {a} f h = record { same = filled-all f ∙ ap (λ (k : ℕ). take a d₀ ++ ys ++ drop k d₀) (head-long d₀ a ys h) }
+
+  -- two writes, one behind the other, are one
+  pub put-next : {d xs ys e g : List A} {at at′ : ℕ} → Put d at xs e → Put e at′ ys g → at′ ≡ at + length xs → at′ + length ys ≤ length d → Put d at (xs ++ ys) g
+  put-next {xs = xs} {ys} p q n h =
+      let f = filled-piece (filled-none (omega arith)) p refl n (omega arith) in
+      filled-put (filled-piece f q (sym (append-nil ys)) refl (omega (arith, f .long))) (omega arith)
 
   -- ---- what a loop reads: a part of n elements from index x, and the next element from index i on
   pub part-long : (s : List A) (x n : ℕ) → x + n ≤ length s → length (take n (drop x s)) ≡ n

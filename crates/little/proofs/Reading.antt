@@ -1,8 +1,7 @@
 -- Laws of little-endian numbers, for every width: a number is its first byte and the rest, and reading back what was put gives it
 -- again. Assumes nothing.
 use mathlib.Core.Path.{_≡_, refl, sym, ap, _∙_}
-use mathlib.Core.Bool.{true, false}
-use mathlib.Core.List.{List, [], _∷_, _++_, append-assoc}
+use mathlib.Core.List.{List, [], _∷_, _++_}
 use Prim.Native.Nat.{ℕ, zero, suc, _+_, _*_, _/_, _%_, _^_, _≤_, _<_}
 use native.Mathlib.Nat.{pow-suc, div-lt-iff-lt-mul}
 use native.Mathlib.Numerals.{add-one, add-two, add-three}
@@ -10,11 +9,11 @@ use native.Mathlib.Omega.{arith}
 use lib.Dec.{T, ltb, ltb→lt, lit<}
 use lib.Pow.{areBytes}
 use lib.ListN.{length, take, drop, getD, set, List·getD-eq-default, drop-of-length-le, length-set}
-use lib.Seq.{take-nil, take-at, drop-at, drop-drop, drop-append-add, length-take-le, take-take}
+use lib.Seq.{take-nil, take-at, drop-drop, drop-append-add}
 use mir.Facts.{and-yes}
 use Rattle.little.specs.Numbers.{numberIn, numberAt, bytesOf}
-use Rattle.little.specs.Writing.{writeAt, Put}
-use Rattle.little.proofs.Filling.{two-stores, four-stores}
+use Rattle.little.specs.Writing.{Put}
+use Rattle.little.proofs.Filling.{put-part, two-stores, four-stores}
 
 -- one byte more in front
 pub number-more : (n : ℕ) (s : List ℕ) (at : ℕ) → numberAt (suc n) s at ≡ getD s at 0 + 256 * numberAt n s (suc at)
@@ -87,14 +86,10 @@ pub number-first : (n v : ℕ) (s : List ℕ) → v < 256 ^ n → numberAt n (by
 unfolding numberAt
 number-first n v s h = ap numberIn (take-at (bytesOf n v) s n (length-bytes n v)) ∙ bytes-say n v h
 
-pub number-put : (n : ℕ) {d e : List ℕ} {at : ℕ} (v : ℕ) → Put d at (bytesOf n v) e → at + n ≤ length d → v < 256 ^ n → numberAt n e at ≡ v
-unfolding numberAt writeAt
+pub number-put : (n : ℕ) {d e : List ℕ} {at : ℕ} (v : ℕ) → Put d at (bytesOf n v) e → at ≤ length d → v < 256 ^ n → numberAt n e at ≡ v
+unfolding numberAt
 number-put n {d} {e} {at} v p h g =
-    let bs : List ℕ = bytesOf n v in
-    let r : List ℕ = drop (at + length bs) d in
-    let l : drop at e ≡ bs ++ r =
-    ap (drop at) (p .same ∙ append-assoc (take at d) bs r) ∙ drop-at (take at d) (bs ++ r) at (length-take-le at d (omega arith)) in
-    ap (λ (m : List ℕ). numberIn (take n m)) l ∙ number-first n v r g
+    ap (λ (k : ℕ). numberIn (take k (drop at e))) (sym (length-bytes n v)) ∙ ap numberIn (put-part p h) ∙ bytes-say n v g
 
 -- in the words of the code: the stores of two bytes and of four
 module _ {d : List ℕ} {at : ℕ} (v : ℕ) where

@@ -1,16 +1,16 @@
 -- Sound there and back: the samples of the bytes of sound are that sound, and the bytes of the samples of bytes are those bytes. By
 -- induction on the list, from one sample. Assumes nothing.
-use mathlib.Core.Path.{_≡_, refl, sym, _∙_, ap}
+use mathlib.Core.Path.{_≡_, refl, _∙_, ap}
 use mathlib.Core.Bool.{true, _&&_}
 use mathlib.Core.List.{List, [], _∷_, _++_}
-use Prim.Native.Nat.{ℕ, zero, suc, _+_, _*_, _/_, _%_, _^_, _≤_, _<_}
+use Prim.Native.Nat.{ℕ, suc, _+_, _%_, _<_}
 use native.Mathlib.Omega.{arith}
 use lib.Dec.{T, ltb}
 use lib.IntN.{ℤ, pos}
 use lib.Pow.{areBytes}
 use lib.ListN.{length, getD}
 use mir.Syntax.{w16}
-use mir.Val.{SFits, Fits, toZ, ofZ}
+use mir.Val.{SFits, Fits}
 use mir.Facts.{toZ-ofZ, ofZ-toZ, fits-ofZ, and-yes, yes-and, ltb-yes}
 use Rattle.little.specs.Numbers.{numberIn, bytesOf}
 use Rattle.little.proofs.Reading.{bytes-say, said-bytes}

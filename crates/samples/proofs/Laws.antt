@@ -1,5 +1,5 @@
 -- Laws of samples: their bits, 8-bit sound and holding, in the words of the code. Assumes nothing.
-use mathlib.Core.Path.{_≡_, refl, sym, _∙_, ap, subst}
+use mathlib.Core.Path.{_≡_, refl, _∙_, ap, subst}
 use mathlib.Core.List.{List}
 use mathlib.Core.Bool.{true, false, cond}
 use Prim.Native.Nat.{ℕ, suc, _+_, _-_, _*_, _^_, _≤_, _<_, min}
@@ -7,10 +7,10 @@ use native.Mathlib.Nat.{le-refl}
 use native.Mathlib.Omega.{arith}
 use lib.Dec.{T, ltb, leb, leb→le}
 use lib.IntN.{ℤ, pos, negsuc, natAbs, _+ℤ_, _-ℤ_, _*ℤ_}
-use lib.Signed.{mag, ltZ, nonNeg}
+use lib.Signed.{ltZ, nonNeg}
 use mir.Syntax.{Width, w8, w16, w32}
 use mir.Val.{SFits, Fits, toZ, ofZ, bits}
-use mir.Facts.{toZ-ofZ, toZ-pos, sfits-widen, sfits-toZ}
+use mir.Facts.{toZ-ofZ, sfits-widen, sfits-toZ}
 use borrow.Author.Tests.{le-ltb, ltb-true}
 use Rattle.little.specs.Numbers.{numberAt, bytesOf}
 use Rattle.little.specs.Writing.{Put}
@@ -129,8 +129,18 @@ module _ {u : ℕ} (h : Fits w8 u) where
 
 pub ruleset eights = (cast-less, louder-fits, louder-is)
 
--- ---- holding to 16 bits
--- on the natural u = z + 32768 it is truncated minus and `min`
+-- ---- a sample as the natural u = z + 32768
+pub record Raised (z : ℤ) : Type 0 where
+  pub u : ℕ
+  pub below : u < 65536
+  pub is : Is z u 32768
+
+pub raised : {z : ℤ} → SFits w16 z → Raised z
+raised f =
+    let s = signed w16 f in
+    record { u = s .a + 32768 - s .b; below = omega arith; is = is-shift (s .a + 32768 - s .b) 32768 (s .is) (omega arith) }
+
+-- ---- holding to 16 bits: on that natural it is truncated minus and `min`
 pub hold-is : {z : ℤ} {a b : ℕ} → Is z a b → Is (hold z) (min (a + 32768 - b) 65535) 32768
 unfolding hold
 hold-is {z = pos n} {a} {b} h =

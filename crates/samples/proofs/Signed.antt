@@ -1,14 +1,14 @@
 -- Laws of signed numbers. `omega` reads naturals alone, so an integer is a difference of two naturals where a fact is exact, and is
 -- known by its size where it only has to fit a width. Assumes nothing.
-use mathlib.Core.Path.{_≡_, refl, sym, _∙_, ap, subst}
+use mathlib.Core.Path.{_≡_, refl, sym, _∙_, ap}
 use mathlib.Core.Bool.{Bool, true, false, not, cond}
 use Prim.Native.Nat.{ℕ, zero, suc, _+_, _-_, _*_, _/_, _^_, _≤_, _<_}
 use native.Mathlib.Nat.{add-mul, mul-le-mul, div-le-of-le-mul, le-refl, le-trans, le-of-lt, lt-of-lt-of-le, lt-of-le-of-lt}
 use lib.Pow.{pow-mono}
 use native.Mathlib.Omega.{arith}
-use lib.Dec.{T, leb, ltb, ltb→lt, nltb→le, leb→le, nleb→lt}
+use lib.Dec.{T, leb, ltb, ltb→lt, leb→le, nleb→lt}
 use lib.IntN.{ℤ, pos, negsuc, negℤ, natAbs, subℕ, _+ℤ_, _-ℤ_, _*ℤ_}
-use lib.Signed.{mag, ltZ, nonNeg, quotZ}
+use lib.Signed.{ltZ, nonNeg, quotZ}
 use mir.Syntax.{Width}
 use mir.Val.{SFits, Fits, toZ, ofZ, bits, hbits}
 use mir.Facts.{toZ-ofZ, toZ-pos}
@@ -89,6 +89,10 @@ is-times {z = negsuc n} {a} {b} k h =
 pub is-abs : {z : ℤ} {a b : ℕ} → Is z a b → natAbs z ≡ (a - b) + (b - a)
 is-abs {z = pos n} h = omega arith
 is-abs {z = negsuc n} h = omega arith
+
+-- the difference of two integers over one base, and its magnitude: the base goes
+pub is-gap : {z w : ℤ} {a b c : ℕ} → Is z a c → Is w b c → Is (z -ℤ w) a b
+is-gap {a = a} {b = b} h k = is-shift a b (is-minus h k) (omega arith)
 
 -- the order: a test on integers is one on naturals
 leb-same : (a b c d : ℕ) → (a ≤ b → c ≤ d) → (c ≤ d → a ≤ b) → leb a b ≡ leb c d

@@ -1,13 +1,12 @@
 -- Laws of the loops that turn bytes into samples and samples into bytes: how many there are, which one is next, and that every turn
 -- writes it. Assumes nothing.
 use mathlib.Core.Path.{_≡_, refl, sym, _∙_, ap}
-use mathlib.Core.List.{List, [], _∷_, _++_, map, append-assoc}
+use mathlib.Core.List.{List, [], _∷_, _++_, map}
 use Prim.Native.Nat.{ℕ, zero, suc, _+_, _*_, _/_, _≤_, _<_}
-use native.Mathlib.Numerals.{add-one}
 use native.Mathlib.Omega.{arith}
 use lib.IntN.{ℤ, pos}
 use lib.Seq.{drop-nil, drop-append-add}
-use lib.ListN.{length, drop, getD, set, length-map, List·getD-map, length-append, List·getD-append}
+use lib.ListN.{length, drop, getD, set, length-map, List·getD-map, length-append}
 use mir.Syntax.{w16}
 use mir.Val.{SFits, toZ, ofZ}
 use mir.Facts.{toZ-ofZ}
@@ -15,7 +14,7 @@ use Rattle.little.specs.Numbers.{numberAt}
 use Rattle.little.specs.Writing.{Put, front}
 use Rattle.little.proofs.Filling.{Written, drop-next, front-begins, front-room, front-next, front-piece, front-ends}
 use Rattle.little.proofs.Reading.{length-bytes}
-use Rattle.samples.specs.Sound.{signedOf, bitsOf, sampleAt, sampleBytes, samplesIn, soundBytes, eight}
+use Rattle.samples.specs.Sound.{bitsOf, sampleAt, sampleBytes, samplesIn, soundBytes, eight}
 
 -- a sample v that is the next element of ys is stored: the machine reads it back as it is
 module _ {ys out out₀ : List ℤ} {i : ℕ} {v : ℤ} (w : Written ys 0 i out out₀) (h : i < length ys) (f : SFits w16 v) where
