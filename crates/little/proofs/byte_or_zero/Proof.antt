@@ -7,8 +7,4 @@ use Rattle.little.proofs.byte_or_zero.Tie as tie
 pub byte-or-zero-spec : {M : Type 1} → statement M
 byte-or-zero-spec =
     tie.close
-    (tie.spec
-    (λ c. search needs)
-    (λ c κs. search needs)
-    (λ c. search (needs, reading))
-    (λ c. search (needs, reading)))
+    (tie.spec (λ c. search needs) (λ c κs. search needs) (λ c. search (needs, reading)) (λ c. search (needs, reading)))

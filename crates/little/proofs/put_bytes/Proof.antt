@@ -15,15 +15,7 @@ abbrev μ-loop : tie.MeasureT-loop
 pub put-bytes-spec : {M : Type 1} → statement M
 put-bytes-spec =
     tie.close
-    (tie.spec
-    Inv-loop
-    μ-loop
-    (λ c. search (needs, copying))
-    (λ c. search (needs, copying))
-    (λ c. search (needs, copying))
-    (λ c. search (needs, copying))
-    (λ c. search (needs, copying))
-    (λ c. search (needs, copying))
-    (λ c. search (needs, copying))
-    (λ c. search (needs, copying))
+    (tie.spec Inv-loop μ-loop (λ c. search (needs, copying)) (λ c. search (needs, copying))
+    (λ c. search (needs, copying)) (λ c. search (needs, copying)) (λ c. search (needs, copying))
+    (λ c. search (needs, copying)) (λ c. search (needs, copying)) (λ c. search (needs, copying))
     (λ c. search (needs, copying)))

@@ -7,12 +7,5 @@ use Rattle.little.proofs.u16_or_zero.Tie as tie
 pub u16-or-zero-spec : {M : Type 1} → statement M
 u16-or-zero-spec =
     tie.close
-    (tie.spec
-    (λ c. search (needs, reading))
-    (λ c κs. search needs)
-    (λ c. search needs)
-    (λ c κs. search needs)
-    (λ c. search needs)
-    (λ c. search needs)
-    (λ c. search needs)
-    (λ c. search (needs, reading)))
+    (tie.spec (λ c. search (needs, reading)) (λ c κs. search needs) (λ c. search needs) (λ c κs. search needs)
+    (λ c. search needs) (λ c. search needs) (λ c. search needs) (λ c. search (needs, reading)))

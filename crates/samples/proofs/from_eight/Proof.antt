@@ -7,8 +7,5 @@ use Rattle.samples.proofs.from_eight.Tie as tie
 pub from-eight-spec : {M : Type 1} → statement M
 from-eight-spec =
     tie.close
-    (tie.spec
-    (λ c. search (needs, eights))
-    (λ c. search (needs, eights))
-    (λ c. search (needs, eights))
+    (tie.spec (λ c. search (needs, eights)) (λ c. search (needs, eights)) (λ c. search (needs, eights))
     (λ c. search (needs, eights)))

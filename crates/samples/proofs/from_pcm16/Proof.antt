@@ -16,16 +16,7 @@ abbrev μ-loop : tie.MeasureT-loop
 pub from-pcm16-spec : {M : Type 1} → statement M
 from-pcm16-spec =
     tie.close
-    (tie.spec
-    Inv-loop
-    μ-loop
-    (λ c. search (needs, pcm-turning))
-    (λ c. search (needs, pcm-turning))
-    (λ c κs. search (needs, pcm-turning))
-    (λ c. search (needs, pcm-turning))
-    (λ c. search (needs, pcm-turning))
-    (λ c. search (needs, pcm-turning))
-    (λ c. search (needs, pcm-turning))
-    (λ c. search (needs, pcm-turning))
-    (λ c. search (needs, pcm-turning))
-    (λ c. search (needs, pcm-turning)))
+    (tie.spec Inv-loop μ-loop (λ c. search (needs, pcm-turning)) (λ c. search (needs, pcm-turning))
+    (λ c κs. search (needs, pcm-turning)) (λ c. search (needs, pcm-turning)) (λ c. search (needs, pcm-turning))
+    (λ c. search (needs, pcm-turning)) (λ c. search (needs, pcm-turning)) (λ c. search (needs, pcm-turning))
+    (λ c. search (needs, pcm-turning)) (λ c. search (needs, pcm-turning)))

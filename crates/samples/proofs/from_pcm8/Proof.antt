@@ -18,16 +18,7 @@ abbrev μ-loop : tie.MeasureT-loop
 pub from-pcm8-spec : {M : Type 1} → statement M
 from-pcm8-spec =
     tie.close
-    (tie.spec
-    Inv-loop
-    μ-loop
-    (λ c. search (needs, eights-turning))
-    (λ c. search (needs, eights-turning))
-    (λ c κs. search (needs, eights-turning))
-    (λ c. search (needs, eights-turning))
-    (λ c. search (needs, eights-turning))
-    (λ c. search (needs, eights-turning))
-    (λ c. search (needs, eights-turning))
-    (λ c. search (needs, eights-turning))
-    (λ c. search (needs, eights-turning))
-    (λ c. search (needs, eights-turning)))
+    (tie.spec Inv-loop μ-loop (λ c. search (needs, eights-turning)) (λ c. search (needs, eights-turning))
+    (λ c κs. search (needs, eights-turning)) (λ c. search (needs, eights-turning))
+    (λ c. search (needs, eights-turning)) (λ c. search (needs, eights-turning)) (λ c. search (needs, eights-turning))
+    (λ c. search (needs, eights-turning)) (λ c. search (needs, eights-turning)) (λ c. search (needs, eights-turning)))

@@ -7,8 +7,5 @@ use Rattle.samples.proofs.held.Tie as tie
 pub held-spec : {M : Type 1} → statement M
 held-spec =
     tie.close
-    (tie.spec
-    (λ c. search (needs, holding))
-    (λ c. search (needs, holding))
-    (λ c. search (needs, holding))
+    (tie.spec (λ c. search (needs, holding)) (λ c. search (needs, holding)) (λ c. search (needs, holding))
     (λ c. search (needs, holding)))

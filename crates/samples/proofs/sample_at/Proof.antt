@@ -7,7 +7,4 @@ use Rattle.samples.proofs.sample_at.Tie as tie
 pub sample-at-spec : {M : Type 1} → statement M
 sample-at-spec =
     tie.close
-    (tie.spec
-    (λ c κs. search needs)
-    (λ c κs. search needs)
-    (λ c. search (needs, placed)))
+    (tie.spec (λ c κs. search needs) (λ c κs. search needs) (λ c. search (needs, placed)))

@@ -7,10 +7,5 @@ use Rattle.samples.proofs.to_bits.Tie as tie
 pub to-bits-spec : {M : Type 1} → statement M
 to-bits-spec =
     tie.close
-    (tie.spec
-    (λ c. search (needs, bitwise))
-    (λ c. search (needs, bitwise))
-    (λ c. search (needs, bitwise))
-    (λ c. search (needs, bitwise))
-    (λ c. search (needs, bitwise))
-    (λ c. search (needs, bitwise)))
+    (tie.spec (λ c. search (needs, bitwise)) (λ c. search (needs, bitwise)) (λ c. search (needs, bitwise))
+    (λ c. search (needs, bitwise)) (λ c. search (needs, bitwise)) (λ c. search (needs, bitwise)))

@@ -17,16 +17,7 @@ abbrev μ-loop : tie.MeasureT-loop
 pub to-pcm16-spec : {M : Type 1} → statement M
 to-pcm16-spec =
     tie.close
-    (tie.spec
-    Inv-loop
-    μ-loop
-    (λ c. search (needs, sound-turning))
-    (λ c. search (needs, sound-turning))
-    (λ c. search (needs, sound-turning))
-    (λ c. search (needs, sound-turning))
-    (λ c κs. search (needs, sound-turning))
-    (λ c. search (needs, sound-turning))
-    (λ c. search (needs, sound-turning))
-    (λ c. search (needs, sound-turning))
-    (λ c. search (needs, sound-turning))
-    (λ c. search (needs, sound-turning)))
+    (tie.spec Inv-loop μ-loop (λ c. search (needs, sound-turning)) (λ c. search (needs, sound-turning))
+    (λ c. search (needs, sound-turning)) (λ c. search (needs, sound-turning)) (λ c κs. search (needs, sound-turning))
+    (λ c. search (needs, sound-turning)) (λ c. search (needs, sound-turning)) (λ c. search (needs, sound-turning))
+    (λ c. search (needs, sound-turning)) (λ c. search (needs, sound-turning)))

@@ -7,8 +7,5 @@ use Rattle.samples_vectors.proofs.raised.Tie as tie
 pub raised-spec : {M : Type 1} → statement M
 raised-spec =
     tie.close
-    (tie.spec
-    (λ c. search (needs, bitwise))
-    (λ c. search (needs, bitwise))
-    (λ c. search (needs, bitwise))
+    (tie.spec (λ c. search (needs, bitwise)) (λ c. search (needs, bitwise)) (λ c. search (needs, bitwise))
     (λ c. search (needs, bitwise)))

@@ -7,14 +7,7 @@ use Rattle.show.proofs.sample.Tie as tie
 pub sample-spec : {M : Type 1} → statement M
 sample-spec =
     tie.close
-    (tie.spec
-    (λ c. search (needs, magnitude))
-    (λ c. search (needs, magnitude))
-    (λ c κs. search (needs, magnitude))
-    (λ c. search (needs, magnitude))
-    (λ c. search (needs, magnitude))
-    (λ c κs. search (needs, magnitude))
-    (λ c. search (needs, magnitude))
-    (λ c. search (needs, magnitude))
-    (λ c κs. search (needs, magnitude))
+    (tie.spec (λ c. search (needs, magnitude)) (λ c. search (needs, magnitude)) (λ c κs. search (needs, magnitude))
+    (λ c. search (needs, magnitude)) (λ c. search (needs, magnitude)) (λ c κs. search (needs, magnitude))
+    (λ c. search (needs, magnitude)) (λ c. search (needs, magnitude)) (λ c κs. search (needs, magnitude))
     (λ c. search (needs, magnitude)))
