@@ -92,25 +92,23 @@ def samples():
     return data, '\n'.join(lines) + '\n'
 
 
-def main():
-    write = sys.argv[1:] == ['--write']
-    if sys.argv[1:] and not write:
+def main(words):
+    """Compares or writes; the exit status is 1 where something differs."""
+    if words not in ([], ['--write']):
         sys.exit(__doc__)
-    wrong = 0
-    for make in (units, little, samples):
-        crate = CRATES / f'{make.__name__}_vectors'
-        data, expected = make()
-        for name, content in (('stdin', data), ('stdout', expected.encode())):
-            path = crate / name
-            if name == 'stdin' and not content:
-                continue
-            if write:
+    made = {f'{make.__name__}_vectors': make() for make in (units, little, samples)}
+    wrong = [f'{p.name}: nothing here works out its vectors' for p in CRATES.glob('*_vectors') if p.name not in made]
+    for name, (data, expected) in made.items():
+        files = {'stdin': data or None, 'stdout': expected.encode()}
+        for path, content in ((CRATES / name / file, content) for file, content in files.items()):
+            if words and content is not None:
                 path.write_bytes(content)
-            elif not path.exists() or path.read_bytes() != content:
-                print(f'tests/vectors.py: {path.relative_to(CRATES.parent)} is not what document 01 and Python give')
-                wrong += 1
-    sys.exit(1 if wrong else 0)
+            if (path.read_bytes() if path.exists() else None) != content:
+                wrong.append(f'{name}/{path.name} is not what document 01 and Python give')
+    for line in wrong:
+        print(f'tests/vectors.py: {line}')
+    return 1 if wrong else 0
 
 
 if __name__ == '__main__':
-    main()
+    sys.exit(main(sys.argv[1:]))

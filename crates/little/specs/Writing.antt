@@ -4,11 +4,11 @@ use mathlib.Core.Path.{_≡_}
 use mathlib.Core.List.{List, _++_}
 use lib.ListN.{length, take, drop}
 
--- d with ys written at index at
+-- d with ys written at index at, where d has room for it
 unfoldable pub writeAt : {A : Type 0} → List A → ℕ → List A → List A
 writeAt d at ys = take at d ++ ys ++ drop (at + length ys) d
 
--- d with ys written from its start: ys, and then what d holds past it
+-- d with ys written from its start, where d has room for it: ys, and then what d holds past it
 unfoldable pub front : {A : Type 0} → List A → List A → List A
 front ys d = ys ++ drop (length ys) d
 

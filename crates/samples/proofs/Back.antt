@@ -1,5 +1,5 @@
--- Sound there and back: the samples of the bytes of sound are that sound, and the bytes of the samples of bytes are those bytes. By
--- induction on the list, from one sample. Assumes nothing.
+-- Sound there and back: the samples of the bytes of sound are that sound, and the bytes of the samples of an even number of bytes
+-- are those bytes. By induction on the list, from one sample. Assumes nothing.
 use mathlib.Core.Path.{_≡_, refl, _∙_, ap}
 use mathlib.Core.Bool.{true, _&&_}
 use mathlib.Core.List.{List, [], _∷_, _++_}

@@ -3,34 +3,40 @@ use mathlib.Core.Path.{_≡_, refl, _∙_, ap, subst}
 use mathlib.Core.List.{List}
 use mathlib.Core.Bool.{true, false, cond}
 use Prim.Native.Nat.{ℕ, suc, _+_, _-_, _*_, _^_, _≤_, _<_, min}
-use native.Mathlib.Nat.{le-refl}
+use native.Mathlib.Nat.{le-refl, mul-le-mul-right}
 use native.Mathlib.Omega.{arith}
 use lib.Dec.{T, ltb, leb, leb→le}
 use lib.IntN.{ℤ, pos, negsuc, natAbs, _+ℤ_, _-ℤ_, _*ℤ_}
 use lib.Signed.{ltZ, nonNeg}
 use mir.Syntax.{Width, w8, w16, w32}
 use mir.Val.{SFits, Fits, toZ, ofZ, bits}
-use mir.Facts.{toZ-ofZ, sfits-widen, sfits-toZ}
+use mir.Facts.{toZ-ofZ, sfits-widen}
 use borrow.Author.Tests.{le-ltb, ltb-true}
 use Rattle.little.specs.Numbers.{numberAt, bytesOf}
 use Rattle.little.specs.Writing.{Put}
 use Rattle.samples.specs.Sound.{signedOf, bitsOf, sampleAt, sampleBytes, eight, hold}
-use Rattle.samples.proofs.Signed.{Is, by-ltb, is-shift, is-pos, is-negsuc, is-add, is-minus, is-times, is-unique, is-abs, not-less, not-negative, fits, signed, is-read, Near, fits-near, near-fits, near-narrow, near-add, near-pos, cast-less}
+use Rattle.samples.proofs.Signed.{Is, by-ltb, is-shift, is-pos, is-negsuc, is-add, is-minus, is-times, is-unique, is-abs, less, not-less, not-negative, fits, signed, is-read, Near, fits-near, near-fits, near-narrow, near-add, near-pos, cast-less}
 
 -- ---- a sample from its bits
 module _ {n : ℕ} (h : Fits w16 n) (l : 32768 ≤ n) where
+  minus : (k : ℕ) → Is (toZ w32 n -ℤ pos k) n k
+  minus k = is-shift n k (is-minus (is-read w32 {n = n} (omega (arith, h .fits))) (is-pos k)) (omega arith)
+
+  pub lowered-narrow : (k : ℕ) → T (leb 32768 k) → T (leb k 65536) → SFits w16 (toZ w32 (ofZ w32 (toZ w32 n -ℤ pos k)))
+  lowered-narrow k s t =
+      let b = leb→le 32768 k s in
+      let c = leb→le k 65536 t in
+      rw (toZ-ofZ (fits w32 (minus k) (omega (arith, h .fits)) (omega arith)))
+      (fits w16 (minus k) (omega (arith, h .fits)) (omega arith))
+
   lowered : toZ w32 n -ℤ pos 65536 ≡ signedOf n
   unfolding signedOf
   lowered =
-      is-unique (is-minus (is-read w32 (omega (arith, h .fits))) (is-pos 65536))
-      (subst (λ z. Is z (n + 0) (0 + 65536)) (simp (le-ltb n 32768 l)) (is-shift (n + 0) (0 + 65536) (is-negsuc (65536 - suc n)) (omega (arith, h .fits))))
-
-  pub lowered-narrow : SFits w16 (toZ w32 (ofZ w32 (toZ w32 n -ℤ pos 65536)))
-  unfolding signedOf
-  lowered-narrow = rw (toZ-ofZ (cast-less w32 w16 65536 h tt tt), lowered) (sfits-toZ h)
+      is-unique (minus 65536)
+      (subst (λ z. Is z n 65536) (simp (le-ltb n 32768 l)) (is-shift n 65536 (is-negsuc (65536 - suc n)) (omega (arith, h .fits))))
 
   pub lowered-is : toZ w16 (ofZ w16 (toZ w32 (ofZ w32 (toZ w32 n -ℤ pos 65536)))) ≡ signedOf n
-  lowered-is = toZ-ofZ lowered-narrow ∙ toZ-ofZ (cast-less w32 w16 65536 h tt tt) ∙ lowered
+  lowered-is = toZ-ofZ (lowered-narrow 65536 tt tt) ∙ toZ-ofZ (cast-less w32 w16 65536 h tt tt) ∙ lowered
 
 pub plain-is : (n : ℕ) → toZ w16 n ≡ signedOf n
 unfolding signedOf
@@ -60,24 +66,23 @@ module _ {z : ℤ} (f : SFits w16 z) where
     pub raised-narrow : {v : Width} → T (ltb (2 ^ 15 + k) (2 ^ bits v)) → Fits v (natAbs (toZ w32 (ofZ w32 (toZ w32 (ofZ w32 (toZ w16 (ofZ w16 z))) +ℤ pos k))))
     raised-narrow b = rw (toZ-ofZ raised-fits) (near-narrow (near-raised k) b)
 
-lifted : (z : ℤ) → SFits w16 z → ltZ z (pos 0) ≡ true → (Is (z +ℤ pos 65536) (bitsOf z) 0) × (bitsOf z < 65536)
+lifted : (z : ℤ) → SFits w16 z → ltZ z (pos 0) ≡ true → natAbs (z +ℤ pos 65536) ≡ bitsOf z
 unfolding bitsOf
 lifted (pos n) f e = absurd (omega (arith, ltb-true n 0 e))
-lifted (negsuc n) f e =
-    (is-shift (65536 - suc n) 0 (is-add (is-negsuc n) (is-pos 65536)) (omega (arith, f .sfits)), omega arith)
+lifted (negsuc n) f e = omega (arith, f .sfits, is-abs (is-add (is-negsuc n) (is-pos 65536)))
 
 module _ {z : ℤ} (f : SFits w16 z) (n : ltZ (toZ w16 (ofZ w16 z)) (pos 0) ≡ true) where
-  below : (Is (toZ w32 (ofZ w32 (toZ w16 (ofZ w16 z))) +ℤ pos 65536) (bitsOf z) 0) × (bitsOf z < 65536)
-  below = rw (wide-is f) (lifted z f (rw (toZ-ofZ f) at n))
-
-  above : Is (toZ w32 (ofZ w32 (toZ w32 (ofZ w32 (toZ w16 (ofZ w16 z))) +ℤ pos 65536))) (bitsOf z) 0
-  above = rw (toZ-ofZ (raised-fits f 65536 tt)) (below .0)
+  pub lifted-narrow : (k : ℕ) → T (leb 32768 k) → T (leb k 65536) → Fits w16 (natAbs (toZ w32 (ofZ w32 (toZ w32 (ofZ w32 (toZ w16 (ofZ w16 z))) +ℤ pos k))))
+  lifted-narrow k s t =
+      let p = signed w16 f in
+      let b = leb→le 32768 k s in
+      let c = leb→le k 65536 t in
+      let g = less (p .is) (is-pos 0) (rw (toZ-ofZ f) at n) in
+      let e : Is (toZ w32 (ofZ w32 (toZ w16 (ofZ w16 z))) +ℤ pos k) (p .a + k) (p .b + 0) = rw (wide-is f) (is-add (p .is) (is-pos k)) in
+      rw (toZ-ofZ (fits w32 e (omega arith) (omega arith))) (record { fits = omega (arith, is-abs e) })
 
   pub lifted-is : natAbs (toZ w32 (ofZ w32 (toZ w32 (ofZ w32 (toZ w16 (ofZ w16 z))) +ℤ pos 65536))) ≡ bitsOf z
-  lifted-is = omega (arith, is-abs above)
-
-  pub lifted-narrow : Fits w16 (natAbs (toZ w32 (ofZ w32 (toZ w32 (ofZ w32 (toZ w16 (ofZ w16 z))) +ℤ pos 65536))))
-  lifted-narrow = record { fits = omega (arith, lifted-is, below .1) }
+  lifted-is = rw (toZ-ofZ (raised-fits f 65536 tt), wide-is f) (lifted z f (rw (toZ-ofZ f) at n))
 
 positive : (z : ℤ) → SFits w16 z → ltZ z (pos 0) ≡ false → T (nonNeg z) × Fits w16 (natAbs z) × (natAbs z ≡ bitsOf z)
 unfolding bitsOf
@@ -116,16 +121,19 @@ module _ {u : ℕ} (h : Fits w8 u) where
   centred : Is (toZ w16 u -ℤ pos 128) u 128
   centred = is-shift u 128 (is-minus {a = u} {b = 0} (is-read w16 (omega (arith, h .fits))) (is-pos 128)) (omega arith)
 
-  louder : Is (toZ w16 (ofZ w16 (toZ w16 u -ℤ pos 128)) *ℤ pos 256) (u * 256) (128 * 256)
-  louder = rw (toZ-ofZ (cast-less w16 w8 128 h tt tt)) (is-times 256 centred)
+  louder : (k : ℕ) → Is (toZ w16 (ofZ w16 (toZ w16 u -ℤ pos 128)) *ℤ pos k) (u * k) (128 * k)
+  louder k = rw (toZ-ofZ (cast-less w16 w8 128 h tt tt)) (is-times k centred)
 
-  pub louder-fits : SFits w16 (toZ w16 (ofZ w16 (toZ w16 u -ℤ pos 128)) *ℤ pos 256)
-  louder-fits = fits w16 louder (omega (arith, h .fits)) (omega arith)
+  pub louder-fits : (k : ℕ) → T (leb k 256) → SFits w16 (toZ w16 (ofZ w16 (toZ w16 u -ℤ pos 128)) *ℤ pos k)
+  louder-fits k t =
+      let c = leb→le k 256 t in
+      let m : u * k ≤ 255 * k = mul-le-mul-right k (omega (arith, h .fits)) in
+      fits w16 (louder k) (omega arith) (omega arith)
 
   pub louder-is : toZ w16 (ofZ w16 (toZ w16 (ofZ w16 (toZ w16 u -ℤ pos 128)) *ℤ pos 256)) ≡ eight u
   unfolding eight
   louder-is =
-      toZ-ofZ louder-fits ∙ is-unique louder (is-times 256 (is-shift u 128 (is-minus (is-pos u) (is-pos 128)) (omega arith)))
+      toZ-ofZ (louder-fits 256 tt) ∙ is-unique (louder 256) (is-times 256 (is-shift u 128 (is-minus (is-pos u) (is-pos 128)) (omega arith)))
 
 pub ruleset eights = (cast-less, louder-fits, louder-is)
 

@@ -8,11 +8,11 @@ use mir.Syntax.{w16}
 use mir.Val.{toZ, ofZ}
 use Rattle.little.specs.Numbers.{numberIn, numberAt, bytesOf}
 
--- the signed number of 16 bits, in two's complement
+-- the signed number of 16 bits, n below 65536, in two's complement
 unfoldable pub signedOf : ℕ → ℤ
 signedOf n = toZ w16 n
 
--- the 16 bits of a signed number
+-- the 16 bits of a signed number within -32768..32767
 unfoldable pub bitsOf : ℤ → ℕ
 bitsOf z = ofZ w16 z
 

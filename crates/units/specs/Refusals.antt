@@ -3,7 +3,7 @@ use Prim.Native.Nat.{ℕ}
 use Rattle.units.specs.declared.Refusal.{Refusal}
 use Rattle.units.specs.declared.Refusal.the-variants.{LengthOutOfRange, NotWave, RiffSizeWrong, ChunkPastTheEnd, SecondOfItsKind, DataBeforeFormat, WaveList, FormatOrDataMissing, FormatWrong, NotWholeFrames, FactWrong, CuesWrong, PlaylistWrong, OutputTooSmall, BlockHeaderWrong, SongEmptyOrDifferent, NoPlaceOnSide, AlreadyListed, NotASide, NoSuchBlock}
 
--- the number of a refusal; beside it, when it is given
+-- the number of a refusal; above each, when it is given, besides where an operation says so
 abbrev pub numberOf : Refusal → ℕ
 -- length under 12 or over the limit
 numberOf LengthOutOfRange = 1

@@ -12,13 +12,14 @@ fn row(refusal: Refusal, meaning: &[u8]) {
     show::line();
 }
 
-fn largest(frames: Frames, place: BytePlace, song: Donation) {
+// It takes what the units hold with no cast, so it compiles only where their widths are these.
+fn largest(frames: u32, place: usize, donation: u32) {
     show::word(b"frames ");
-    show::number(frames.0 as u64);
+    show::number(frames as u64);
     show::word(b" place ");
-    show::number(place.0 as u64);
+    show::number(place as u64);
     show::word(b" donation ");
-    show::number(song.0 as u64);
+    show::number(donation as u64);
     show::line();
 }
 
@@ -81,9 +82,8 @@ fn of_its_parts() {
 fn main() {
     of_the_file();
     of_its_parts();
-    largest(
-        Frames(4294967295),
-        BytePlace(18446744073709551615),
-        Donation(4294967295),
-    );
+    let frames = Frames(4294967295);
+    let place = BytePlace(18446744073709551615);
+    let song = Donation(4294967295);
+    largest(frames.0, place.0, song.0);
 }
