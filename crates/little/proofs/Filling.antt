@@ -1,12 +1,12 @@
 -- The laws of filling a lent buffer, once for every type of element: what a run of writes has done and has left to do. Assumes nothing.
 use mathlib.Core.Path.{_≡_, refl, sym, ap, _∙_, subst}
 use mathlib.Core.List.{List, [], _∷_, _++_, append-assoc, append-nil}
-use Prim.Native.Nat.{ℕ, suc, _+_, _≤_, _<_}
+use Prim.Native.Nat.{ℕ, _+_, _≤_, _<_}
 use native.Mathlib.Nat.{zero-add, add-zero}
 use native.Mathlib.Numerals.{add-one, add-two, add-three}
 use native.Mathlib.Omega.{arith}
-use lib.ListN.{length, take, drop, getD, set, length-append, length-drop, length-set, take-append-drop, drop-of-length-le}
-use lib.Seq.{take-at, take-append-seam, drop-at, drop-drop, take-suc-set, drop-set-lt, append-snoc, length-take-le, drop-cons, sets-eq, getD-take, getD-drop}
+use lib.ListN.{length, take, drop, getD, set, length-append, length-drop, take-append-drop, drop-of-length-le}
+use lib.Seq.{take-at, take-append-seam, drop-at, drop-drop, length-take-le, drop-cons, sets-eq, getD-take, getD-drop}
 use Rattle.little.specs.Writing.{writeAt, front, Put}
 
 -- d₀ is to become p, and then what d₀ has past it. In d that is done up to index at, and rest is left to write
@@ -47,14 +47,20 @@ module _ {A : Type 0} where
   unfolding writeAt front
   put-front {d} {ys} p = p .same ∙ ap (λ (k : ℕ). ys ++ drop k d) (zero-add (length ys))
 
-  -- two and four stores in a row
+  -- one store, and two and four in a row
+  pub one-store : {d : List A} {at : ℕ} {x : A} → at + 1 ≤ length d → Put d at (x ∷ []) (set d at x)
+  unfolding writeAt
+  one-store {d} {at} {x} h = record { same = sets-eq (x ∷ []) d at h }
+
   pub two-stores : {d : List A} {at : ℕ} {x y : A} → at + 2 ≤ length d → Put d at (x ∷ y ∷ []) (set (set d at x) (at + 1) y)
   unfolding writeAt
   two-stores {d} {at} {x} {y} h = record { same = rw (add-one at) (sets-eq (x ∷ y ∷ []) d at h) }
 
-  pub four-stores : {d : List A} {at : ℕ} {x y z w : A} → at + 4 ≤ length d → Put d at (x ∷ y ∷ z ∷ w ∷ []) (set (set (set (set d at x) (at + 1) y) (at + 2) z) (at + 3) w)
+  pub four-stores : {d : List A} {at : ℕ} {x y z w : A} → at + 4 ≤ length d
+      → Put d at (x ∷ y ∷ z ∷ w ∷ []) (set (set (set (set d at x) (at + 1) y) (at + 2) z) (at + 3) w)
   unfolding writeAt
-  four-stores {d} {at} {x} {y} {z} {w} h = record { same = rw (add-one at, add-two at, add-three at) (sets-eq (x ∷ y ∷ z ∷ w ∷ []) d at h) }
+  four-stores {d} {at} {x} {y} {z} {w} h =
+      record { same = rw (add-one at, add-two at, add-three at) (sets-eq (x ∷ y ∷ z ∷ w ∷ []) d at h) }
 
   -- ---- a run of writes
   -- nothing is written yet; the writing starts at index at
@@ -62,7 +68,8 @@ module _ {A : Type 0} where
   filled-none h = record { head = refl; tail = refl; long = refl; room = h }
 
   -- a piece ys is written at index at
-  pub filled-piece : {p rest rest′ ys d e d₀ : List A} {at at′ : ℕ} → Filled p rest at d d₀ → Put d at ys e → rest ≡ ys ++ rest′ → at′ ≡ at + length ys → at′ ≤ length d → Filled p rest′ at′ e d₀
+  pub filled-piece : {p rest rest′ ys d e d₀ : List A} {at at′ : ℕ}
+      → Filled p rest at d d₀ → Put d at ys e → rest ≡ ys ++ rest′ → at′ ≡ at + length ys → at′ ≤ length d → Filled p rest′ at′ e d₀
   unfolding writeAt
   filled-piece {p} {rest} {rest′} {ys} {d} {e} {d₀} {at} {at′} f w r n h =
       let q : List A = take at d ++ ys in
@@ -70,22 +77,25 @@ module _ {A : Type 0} where
       let l : length q ≡ at′ = head-long d at ys (f .room) ∙ sym n in
       let g : length e ≡ length d = put-long w (omega arith) in
       record {
-        head = ap (λ (m : List A). take at′ m ++ rest′) (w .same) ∙ ap (λ (m : List A). m ++ rest′) (take-at q z at′ l) ∙ append-assoc (take at d) ys rest′ ∙ ap (λ (m : List A). take at d ++ m) (sym r) ∙ f .head;
-        tail = ap (drop at′) (w .same) ∙ drop-at q z at′ l ∙ drop-more d d₀ at (length ys) (f .tail) ∙ ap (λ (k : ℕ). drop k d₀) (sym n);
+        head =
+            ap (λ (m : List A). take at′ m ++ rest′) (w .same)
+            ∙ ap (λ (m : List A). m ++ rest′) (take-at q z at′ l)
+            ∙ append-assoc (take at d) ys rest′
+            ∙ ap (λ (m : List A). take at d ++ m) (sym r)
+            ∙ f .head;
+        tail =
+            ap (drop at′) (w .same)
+            ∙ drop-at q z at′ l
+            ∙ drop-more d d₀ at (length ys) (f .tail)
+            ∙ ap (λ (k : ℕ). drop k d₀) (sym n);
         long = g ∙ f .long;
         room = omega arith;
       }
 
   -- one element v is stored at index at
-  pub filled-store : {p rest rest′ d d₀ : List A} {at at′ : ℕ} {v : A} → Filled p rest at d d₀ → rest ≡ v ∷ rest′ → at < length d → at′ ≡ at + 1 → Filled p rest′ at′ (set d at v) d₀
-  filled-store {p} {rest} {rest′} {d} {d₀} {at} {at′} {v} f e h n =
-      let m : at′ ≡ suc at = n ∙ add-one at in
-      record {
-        head = ap (λ (k : ℕ). take k (set d at v) ++ rest′) m ∙ ap (λ (l : List A). l ++ rest′) (take-suc-set d at v h) ∙ append-snoc (take at d) v rest′ ∙ ap (λ (l : List A). take at d ++ l) (sym e) ∙ f .head;
-        tail = drop-set-lt at′ d at v (omega arith) ∙ subst (λ (k : ℕ). drop k d ≡ drop k d₀) (sym n) (drop-more d d₀ at 1 (f .tail));
-        long = length-set d at v ∙ f .long;
-        room = omega (arith, length-set d at v);
-      }
+  pub filled-store : {p rest rest′ d d₀ : List A} {at at′ : ℕ} {v : A}
+      → Filled p rest at d d₀ → rest ≡ v ∷ rest′ → at < length d → at′ ≡ at + 1 → Filled p rest′ at′ (set d at v) d₀
+  filled-store f e h n = filled-piece f (one-store (omega arith)) e n (omega arith)
 
   -- nothing is left
   pub filled-all : {p d d₀ : List A} {at : ℕ} → Filled p [] at d d₀ → d ≡ front p d₀
@@ -93,7 +103,10 @@ module _ {A : Type 0} where
   filled-all {p} {d} {d₀} {at} f =
       let w : take at d ≡ p = sym (append-nil (take at d)) ∙ f .head in
       let n : at ≡ length p = sym (length-take-le at d (f .room)) ∙ ap length w in
-      sym (take-append-drop at d) ∙ ap (λ (l : List A). l ++ drop at d) w ∙ ap (λ (l : List A). p ++ l) (f .tail) ∙ ap (λ (k : ℕ). p ++ drop k d₀) n
+      sym (take-append-drop at d)
+      ∙ ap (λ (l : List A). l ++ drop at d) w
+      ∙ ap (λ (l : List A). p ++ l) (f .tail)
+      ∙ ap (λ (k : ℕ). p ++ drop k d₀) n
 
   -- the same where the writing started at index a
   pub filled-put : {ys d d₀ : List A} {a at : ℕ} → Filled (take a d₀ ++ ys) [] at d d₀ → a ≤ length d₀ → Put d₀ a ys d
@@ -101,7 +114,8 @@ module _ {A : Type 0} where
   filled-put {ys} {d} {d₀} {a} f h = record { same = filled-all f ∙ ap (λ (k : ℕ). take a d₀ ++ ys ++ drop k d₀) (head-long d₀ a ys h) }
 
   -- two writes, one behind the other, are one
-  pub put-next : {d xs ys e g : List A} {at at′ : ℕ} → Put d at xs e → Put e at′ ys g → at′ ≡ at + length xs → at′ + length ys ≤ length d → Put d at (xs ++ ys) g
+  pub put-next : {d xs ys e g : List A} {at at′ : ℕ}
+      → Put d at xs e → Put e at′ ys g → at′ ≡ at + length xs → at′ + length ys ≤ length d → Put d at (xs ++ ys) g
   put-next {xs = xs} {ys} p q n h =
       let f = filled-piece (filled-none (omega arith)) p refl n (omega arith) in
       filled-put (filled-piece f q (sym (append-nil ys)) refl (omega (arith, f .long))) (omega arith)
@@ -130,22 +144,20 @@ module _ {A : Type 0} {ys d d₀ : List A} {at i : ℕ} (w : Written ys at i d d
   pub write-room : i < length ys → at + i < length d
   write-room h = omega (arith, w .room, w .filled .long)
 
-  -- one element more
-  pub write-next : {v : A} (z : A) → i < length ys → v ≡ getD ys i z → Written ys at (i + 1) (set d (at + i) v) d₀
-  write-next z h e =
-      record {
-        room = w .room;
-        upto = omega arith;
-        filled = filled-store (w .filled) (drop-next ys i z h ∙ ap (λ (x : A). x ∷ drop (i + 1) ys) (sym e)) (write-room h) (omega arith);
-      }
-
   -- a piece xs more, up to index j
   pub write-piece : {xs e : List A} {j : ℕ} → Put d (at + i) xs e → drop i ys ≡ xs ++ drop j ys → j ≡ i + length xs → j ≤ length ys → Written ys at j e d₀
   write-piece {j = j} p r n h =
       record { room = w .room; upto = h; filled = filled-piece (w .filled) p r (omega arith) (omega (arith, w .room, w .filled .long)) }
 
+  -- one element more
+  pub write-next : {v : A} (z : A) → i < length ys → v ≡ getD ys i z → Written ys at (i + 1) (set d (at + i) v) d₀
+  write-next z h e =
+      let r = write-room h in
+      write-piece (one-store (omega arith)) (drop-next ys i z h ∙ ap (λ (x : A). x ∷ drop (i + 1) ys) (sym e)) refl (omega arith)
+
   pub write-ends : length ys ≤ i → Put d₀ at ys d
-  write-ends h = filled-put (subst (λ (l : List A). Filled (take at d₀ ++ ys) l (at + i) d d₀) (drop-of-length-le ys h) (w .filled)) (omega (arith, w .room))
+  write-ends h =
+      filled-put (subst (λ (l : List A). Filled (take at d₀ ++ ys) l (at + i) d d₀) (drop-of-length-le ys h) (w .filled)) (omega (arith, w .room))
 
   -- the next element as it stands
   pub copy-next : (z : A) → i < length ys → Written ys at (i + 1) (set d (at + i) (getD ys i z)) d₀

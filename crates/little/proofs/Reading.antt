@@ -36,12 +36,20 @@ module _ (s : List ℕ) (at : ℕ) where
       let f′ = rw (add-one at) at f in
       omega (arith, number-more 1 s at, number-more 0 s (suc at), number-none s (suc (suc at)))
 
-  pub four-bytes : {x y z w : ℕ} → x ≡ getD s at 0 → y ≡ getD s (at + 1) 0 → z ≡ getD s (at + 2) 0 → w ≡ getD s (at + 3) 0 → x + 256 * y + 65536 * z + 16777216 * w ≡ numberAt 4 s at
+  pub four-bytes : {x y z w : ℕ} → x ≡ getD s at 0 → y ≡ getD s (at + 1) 0 → z ≡ getD s (at + 2) 0 → w ≡ getD s (at + 3) 0
+      → x + 256 * y + 65536 * z + 16777216 * w ≡ numberAt 4 s at
   four-bytes e f g h =
       let f′ = rw (add-one at) at f in
       let g′ = rw (add-two at) at g in
       let h′ = rw (add-three at) at h in
-      omega (arith, number-more 3 s at, number-more 2 s (suc at), number-more 1 s (suc (suc at)), number-more 0 s (suc (suc (suc at))), number-none s (suc (suc (suc (suc at)))))
+      omega (
+        arith,
+        number-more 3 s at,
+        number-more 2 s (suc at),
+        number-more 1 s (suc (suc at)),
+        number-more 0 s (suc (suc (suc at))),
+        number-none s (suc (suc (suc (suc at)))),
+      )
 
   pub byte-past : length s ≤ at → 0 ≡ getD s at 0
   byte-past h = sym (List·getD-eq-default s 0 h)
@@ -97,7 +105,8 @@ module _ {d : List ℕ} {at : ℕ} (v : ℕ) where
   unfolding bytesOf
   put-two h = two-stores h
 
-  pub put-four : at + 4 ≤ length d → Put d at (bytesOf 4 v) (set (set (set (set d at (v % 256)) (at + 1) (v / 256 % 256)) (at + 2) (v / 65536 % 256)) (at + 3) (v / 16777216 % 256))
+  pub put-four : at + 4 ≤ length d
+      → Put d at (bytesOf 4 v) (set (set (set (set d at (v % 256)) (at + 1) (v / 256 % 256)) (at + 2) (v / 65536 % 256)) (at + 3) (v / 16777216 % 256))
   unfolding bytesOf
   put-four h =
       let e : v / 65536 ≡ v / 256 / 256 = omega arith in

@@ -122,6 +122,10 @@ not-negative {z = pos n} h g = tt
 not-negative {z = negsuc n} h g = absurd (omega arith)
 
 -- ---- a width: what fits it, what it holds, and what its bits read back as
+-- the machine holds a signed number as bits, and reads them back
+abbrev pub back : Width → ℤ → ℤ
+back w z = toZ w (ofZ w z)
+
 pub fits : (w : Width) {z : ℤ} {a b : ℕ} → Is z a b → a < b + 2 ^ hbits w → b ≤ a + 2 ^ hbits w → SFits w z
 fits w {z = pos n} h l g = omega arith
 fits w {z = negsuc n} h l g = omega arith
@@ -165,7 +169,7 @@ near-narrow {v} {z} {n} h t = record { fits = lt-of-le-of-lt (h .near) (ltb→lt
 pub fits-near : {w : Width} {z : ℤ} → SFits w z → Near z (2 ^ hbits w)
 fits-near {w} {z} f = let p = signed w f in record { near = omega (arith, is-abs (p .is), p .low, p .high) }
 
-pub near-read : {w : Width} {z : ℤ} {n : ℕ} → SFits w z → Near z n → Near (toZ w (ofZ w z)) n
+pub near-read : {w : Width} {z : ℤ} {n : ℕ} → SFits w z → Near z n → Near (back w z) n
 near-read f h = rw (toZ-ofZ f) h
 
 pub near-pos : {n m : ℕ} → n ≤ m → Near (pos n) m

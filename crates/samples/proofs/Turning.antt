@@ -8,17 +8,18 @@ use lib.IntN.{ℤ, pos}
 use lib.Seq.{drop-nil, drop-append-add}
 use lib.ListN.{length, drop, getD, set, length-map, List·getD-map, length-append}
 use mir.Syntax.{w16}
-use mir.Val.{SFits, toZ, ofZ}
+use mir.Val.{SFits}
 use mir.Facts.{toZ-ofZ}
 use Rattle.little.specs.Numbers.{numberAt}
 use Rattle.little.specs.Writing.{Put, front}
 use Rattle.little.proofs.Filling.{Written, drop-next, front-begins, front-room, front-next, front-piece, front-ends}
 use Rattle.little.proofs.Reading.{length-bytes}
 use Rattle.samples.specs.Sound.{bitsOf, sampleAt, sampleBytes, samplesIn, soundBytes, eight}
+use Rattle.samples.proofs.Signed.{back}
 
 -- a sample v that is the next element of ys is stored: the machine reads it back as it is
 module _ {ys out out₀ : List ℤ} {i : ℕ} {v : ℤ} (w : Written ys 0 i out out₀) (h : i < length ys) (f : SFits w16 v) where
-  store-next : (z : ℤ) → v ≡ getD ys i z → Written ys 0 (i + 1) (set out i (toZ w16 (ofZ w16 v))) out₀
+  store-next : (z : ℤ) → v ≡ getD ys i z → Written ys 0 (i + 1) (set out i (back w16 v)) out₀
   store-next z e = front-next w z h (toZ-ofZ f ∙ e)
 
 -- ---- 8-bit PCM
@@ -29,7 +30,7 @@ module _ (s : List ℕ) {out out₀ : List ℤ} {i : ℕ} (w : Written (map eigh
   pub eight-room : i < length s → i < length out
   eight-room h = front-room w (omega (arith, length-map s eight))
 
-  pub eight-next : {v : ℤ} → SFits w16 v → v ≡ eight (getD s i 0) → i < length s → Written (map eight s) 0 (i + 1) (set out i (toZ w16 (ofZ w16 v))) out₀
+  pub eight-next : {v : ℤ} → SFits w16 v → v ≡ eight (getD s i 0) → i < length s → Written (map eight s) 0 (i + 1) (set out i (back w16 v)) out₀
   eight-next f e h = store-next w (omega (arith, length-map s eight)) f (eight 0) (e ∙ sym (List·getD-map eight s i 0))
 
   pub eight-ends : length s ≤ i → out ≡ front (map eight s) out₀
@@ -60,7 +61,7 @@ module _ (s : List ℕ) {out out₀ : List ℤ} {i : ℕ} (w : Written (samplesI
   pub pcm-room : i < length s / 2 → i < length out
   pcm-room h = front-room w (omega (arith, length-samples s))
 
-  pub pcm-next : {v : ℤ} → SFits w16 v → v ≡ sampleAt s (2 * i) → i < length s / 2 → Written (samplesIn s) 0 (i + 1) (set out i (toZ w16 (ofZ w16 v))) out₀
+  pub pcm-next : {v : ℤ} → SFits w16 v → v ≡ sampleAt s (2 * i) → i < length s / 2 → Written (samplesIn s) 0 (i + 1) (set out i (back w16 v)) out₀
   pcm-next f e h = store-next w (omega (arith, length-samples s)) f (pos 0) (e ∙ sym (samples-at s i h))
 
   pub pcm-ends : length s / 2 ≤ i → out ≡ front (samplesIn s) out₀
@@ -93,7 +94,8 @@ module _ (s : List ℤ) {out out₀ : List ℕ} (i : ℕ) (w : Written (soundByt
   pub sound-room : i < length s → 2 * i + 2 ≤ length out
   sound-room h = omega (arith, length-sound s, w .room, w .filled .long)
 
-  pub sound-next : {e : List ℕ} → i < length s → SFits w16 (getD s i (pos 0)) → Put out (2 * i) (sampleBytes (toZ w16 (ofZ w16 (getD s i (pos 0))))) e → Written (soundBytes s) 0 (2 * (i + 1)) e out₀
+  pub sound-next : {e : List ℕ} → i < length s → SFits w16 (getD s i (pos 0))
+      → Put out (2 * i) (sampleBytes (back w16 (getD s i (pos 0)))) e → Written (soundBytes s) 0 (2 * (i + 1)) e out₀
   unfolding soundBytes
   sound-next h f p =
       let v : ℤ = getD s i (pos 0) in
