@@ -11,7 +11,7 @@ use lib.Pow.{areBytes}
 use lib.ListN.{length, getD}
 use mir.Syntax.{w16}
 use mir.Val.{SFits, Fits}
-use mir.Facts.{toZ-ofZ, ofZ-toZ, fits-ofZ, and-yes, yes-and, ltb-yes}
+use mir.Facts.{toZ-ofZ, ofZ-toZ, fits-ofZ, and-yes, yes-and, ltb-yes, yes-ltb}
 use Rattle.little.specs.Numbers.{numberIn, bytesOf}
 use Rattle.little.proofs.Reading.{bytes-say, said-bytes}
 use Rattle.samples.specs.Sound.{signedOf, bitsOf, sampleBytes, samplesIn, soundBytes}
@@ -38,9 +38,11 @@ samples-back [] f = refl
 samples-back (z ∷ s) f = said-sample (soundBytes s) (f 0) ∙ ap (λ (l : List ℤ). z ∷ l) (samples-back s (λ i. f (suc i)))
 
 -- the sample of two bytes, and its bytes
-said-bytes-back : (a b : ℕ) → T (areBytes (a ∷ b ∷ [])) → a < 256 → b < 256 → sampleBytes (signedOf (numberIn (a ∷ b ∷ []))) ≡ a ∷ b ∷ []
+said-bytes-back : (a b : ℕ) → a < 256 → b < 256 → sampleBytes (signedOf (numberIn (a ∷ b ∷ []))) ≡ a ∷ b ∷ []
 unfolding sampleBytes numberIn
-said-bytes-back a b t h k = ap (bytesOf 2) (bits-signed (record { fits = omega arith })) ∙ said-bytes (a ∷ b ∷ []) t
+said-bytes-back a b h k =
+    let t = yes-and (ltb a 256) (ltb b 256 && true) (yes-ltb h) (yes-and (ltb b 256) true (yes-ltb k) tt) in
+    ap (bytesOf 2) (bits-signed (record { fits = omega arith })) ∙ said-bytes (a ∷ b ∷ []) t
 
 -- where they are bytes, and each sample has two
 pub bytes-back : (s : List ℕ) → T (areBytes s) → length s % 2 ≡ 0 → soundBytes (samplesIn s) ≡ s
@@ -50,5 +52,4 @@ bytes-back (a ∷ []) t e = absurd (omega arith)
 bytes-back (a ∷ b ∷ s) t e =
     let p = and-yes (ltb a 256) (ltb b 256 && areBytes s) t in
     let q = and-yes (ltb b 256) (areBytes s) (p .1) in
-    let l = said-bytes-back a b (yes-and (ltb a 256) (ltb b 256 && true) (p .0) (yes-and (ltb b 256) true (q .0) tt)) (ltb-yes (p .0)) (ltb-yes (q .0)) in
-    (λ i. l i ++ bytes-back s (q .1) (omega arith) i)
+    (λ i. said-bytes-back a b (ltb-yes (p .0)) (ltb-yes (q .0)) i ++ bytes-back s (q .1) (omega arith) i)

@@ -90,7 +90,7 @@ pub is-abs : {z : ℤ} {a b : ℕ} → Is z a b → natAbs z ≡ (a - b) + (b - 
 is-abs {z = pos n} h = omega arith
 is-abs {z = negsuc n} h = omega arith
 
--- the difference of two integers over one base, and its magnitude: the base goes
+-- the difference of two integers over one base: the base goes
 pub is-gap : {z w : ℤ} {a b c : ℕ} → Is z a c → Is w b c → Is (z -ℤ w) a b
 is-gap {a = a} {b = b} h k = is-shift a b (is-minus h k) (omega arith)
 

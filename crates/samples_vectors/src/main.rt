@@ -1,6 +1,6 @@
 // Prints the bytes on standard input (at most 64) as 16-bit and as 8-bit sound and the sound's bytes
-// again, numbers held to 16 bits, and for all 65,536 samples and all 256 values of 8-bit sound one
-// number that is mixed of them in order.
+// again, numbers held to 16 bits, and for all 65,536 samples and all 256 values of 8-bit sound
+// numbers that are mixed of them in order.
 ghost use Prim.Native.Nat.{_<_};
 use libc::STDIN_FILENO;
 

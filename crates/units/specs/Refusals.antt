@@ -21,7 +21,7 @@ numberOf DataBeforeFormat = 6
 numberOf WaveList = 7
 -- no `fmt ` or no `data`
 numberOf FormatOrDataMissing = 8
--- channels, rate, tag or any rule of fmt not met
+-- channels, rate, tag or any rule of **fmt** below not met
 numberOf FormatWrong = 9
 -- sound data not whole frames or blocks
 numberOf NotWholeFrames = 10
