@@ -1,4 +1,4 @@
-// The three units, and the twenty reasons to refuse.
+// The three units, the twenty reasons to refuse, and the verdict on an input.
 //
 // A count of frames, a place in bytes and the number of a donated song are three types, so that
 // none is taken for another. A refusal has the number of document 01's table, and `number` is the
@@ -37,6 +37,12 @@ pub enum Refusal {
     AlreadyListed,
     NotASide,
     NoSuchBlock,
+}
+
+// What an input is judged to be: taken, or refused and why.
+pub enum Verdict {
+    Accepted,
+    Refused(Refusal),
 }
 
 // The number of a refusal.

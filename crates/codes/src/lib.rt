@@ -1,0 +1,58 @@
+// The four-byte codes of a WAVE file, and the one test whether a code stands at a place.
+ghost use mathlib.Core.Path.{_≡_};
+ghost use Rattle.codes.specs.Codes.{codeNumber, isAt};
+
+pub const RIFF: u32 = 1179011410;
+
+pub const WAVE: u32 = 1163280727;
+
+pub const FORMAT: u32 = 544501094;
+
+pub const DATA: u32 = 1635017060;
+
+pub const FACT: u32 = 1952670054;
+
+pub const CUE: u32 = 543520099;
+
+pub const PLAYLIST: u32 = 1953721456;
+
+pub const LIST: u32 = 1414744396;
+
+pub const WAVE_LIST: u32 = 1819697527;
+
+// The codes that mean something here.
+pub enum Code {
+    Riff,
+    Wave,
+    Format,
+    Data,
+    Fact,
+    Cue,
+    Playlist,
+    Listing,
+    WaveList,
+}
+
+// A code as the number that its four letters are in a file.
+fn number(code: Code) -> u32
+    ensures { λ r. ⌜ r ≡ codeNumber code ⌝ }
+{
+    match code {
+        Code::Riff => RIFF,
+        Code::Wave => WAVE,
+        Code::Format => FORMAT,
+        Code::Data => DATA,
+        Code::Fact => FACT,
+        Code::Cue => CUE,
+        Code::Playlist => PLAYLIST,
+        Code::Listing => LIST,
+        Code::WaveList => WAVE_LIST,
+    }
+}
+
+// Whether a code stands at a place; past the end none does.
+pub fn is_at(bytes: &[u8], at: usize, code: Code) -> bool
+    ensures { λ r. ⌜ r ≡ isAt (now (bytes .entry)) at code ⌝ }
+{
+    little::u32_or_zero(bytes, at) == number(code)
+}

@@ -1,0 +1,147 @@
+-- Laws of numbers among others and of tests over a range, in the words of the loops. Assumes nothing.
+use mathlib.Core.Path.{_≡_, refl, sym, ap, _∙_}
+use mathlib.Core.Bool.{Bool, true, false, not, cond, _&&_}
+use mathlib.Core.List.{List, [], _∷_}
+use Prim.Native.Nat.{ℕ, zero, suc, _+_, _-_, _≤_, _<_}
+use native.Mathlib.Numerals.{add-one}
+use native.Mathlib.Omega.{arith}
+use lib.Dec.{eqb, ltb}
+use lib.ListN.{length, take, drop, getD, drop-of-length-le, length-drop}
+use lib.Seq.{drop-cons, take-all}
+use borrow.Author.Tests.{eq-eqb, ne-eqb, lt-ltb, le-ltb}
+use Rattle.lists.specs.Among.{indexIn, has, distinct}
+use Rattle.lists.specs.Every.{every, allBelow}
+
+-- ---- looking for x: it is none of the first i
+pub record Seeking (x : ℕ) (ys : List ℕ) (i : ℕ) : Type 0 where
+  pub room : i ≤ length ys
+  pub same : i + indexIn x (drop i ys) ≡ indexIn x ys
+
+module _ {x : ℕ} {ys : List ℕ} where
+  pub seek-begins : Seeking x ys 0
+  seek-begins = record { room = omega arith; same = omega arith }
+
+  module _ {i : ℕ} (w : Seeking x ys i) where
+    pub seek-room : i ≤ length ys
+    seek-room = w .room
+
+    pub seek-ends : length ys ≤ i → i ≡ indexIn x ys
+    unfolding indexIn
+    seek-ends h =
+        let e = ap (indexIn x) (drop-of-length-le ys h) in
+        let s = w .same in
+        omega arith
+
+    module _ (h : i < length ys) where
+      found-at : indexIn x (drop i ys) ≡ cond (eqb (getD ys i 0) x) 0 (suc (indexIn x (drop (suc i) ys)))
+      unfolding indexIn
+      found-at = ap (indexIn x) (drop-cons ys i 0 h)
+
+      pub seek-found : getD ys i 0 ≡ x → i ≡ indexIn x ys
+      seek-found e =
+          let f : indexIn x (drop i ys) ≡ 0 = found-at ∙ simp (eq-eqb (getD ys i 0) x e) in
+          let s = w .same in
+          omega arith
+
+      pub seek-next : (getD ys i 0 ≡ x → ⊥) → Seeking x ys (i + 1)
+      seek-next n =
+          let f : indexIn x (drop i ys) ≡ suc (indexIn x (drop (suc i) ys)) = found-at ∙ simp (ne-eqb (getD ys i 0) x n) in
+          let s = w .same in
+          let g = ap (λ (k : ℕ). indexIn x (drop k ys)) (add-one i) in
+          record { room = omega arith; same = omega arith }
+
+pub ruleset seeking = (seek-begins, seek-room, seek-ends, seek-found, seek-next)
+
+-- ---- none of the first i stands in the list again
+pub record Differing (ys : List ℕ) (i : ℕ) : Type 0 where
+  pub same : distinct (drop i ys) ≡ distinct ys
+
+module _ {ys : List ℕ} where
+  pub differ-begins : Differing ys 0
+  differ-begins = record { same = refl }
+
+  module _ {i : ℕ} (w : Differing ys i) where
+    pub differ-ends : length ys ≤ i → true ≡ distinct ys
+    unfolding distinct
+    differ-ends h = sym (ap distinct (drop-of-length-le ys h)) ∙ w .same
+
+    module _ (h : i < length ys) where
+      -- what follows the number at i
+      abbrev after : List ℕ
+      after = take (length ys - (i + 1)) (drop (i + 1) ys)
+
+      whole : after ≡ drop (suc i) ys
+      whole =
+          let g : length (drop (i + 1) ys) ≤ length ys - (i + 1) = simp length-drop (omega arith) in
+          take-all (length ys - (i + 1)) (drop (i + 1) ys) g ∙ ap (λ (k : ℕ). drop k ys) (add-one i)
+
+      rest-from : {b : Bool} → has (getD ys i 0) after ≡ b → (not b && distinct (drop (suc i) ys)) ≡ distinct ys
+      unfolding distinct
+      rest-from t = sym (ap distinct (drop-cons ys i 0 h) ∙ simp (← whole, t)) ∙ w .same
+
+      pub differ-twice : {n : ℕ} → n < length after → n ≡ indexIn (getD ys i 0) after → false ≡ distinct ys
+      unfolding has
+      differ-twice {n} g f = rest-from {b = true} (simp (← f, lt-ltb n (length after) g))
+
+      pub differ-next : {n : ℕ} → length after ≤ n → n ≡ indexIn (getD ys i 0) after → Differing ys (i + 1)
+      unfolding has
+      differ-next {n} g f =
+          record { same = ap (λ (k : ℕ). distinct (drop k ys)) (add-one i) ∙ rest-from {b = false} (simp (← f, le-ltb n (length after) g)) }
+
+pub ruleset differing = (differ-begins, differ-ends, differ-twice, differ-next)
+
+-- ---- the test holds at all places below i
+pub record Holding (test : ℕ → Bool) (n i : ℕ) : Type 0 where
+  pub room : i ≤ n
+  pub same : every test i (n - i) ≡ every test 0 n
+
+module _ {test : ℕ → Bool} {n : ℕ} where
+  pub hold-begins : Holding test n 0
+  hold-begins =
+      let e : n - 0 ≡ n = omega arith in
+      record { room = omega arith; same = ap (every test 0) e }
+
+  module _ {i : ℕ} (w : Holding test n i) where
+    pub hold-ends : n ≤ i → true ≡ every test 0 n
+    unfolding every
+    hold-ends h =
+        let e : n - i ≡ 0 = omega arith in
+        sym (ap (every test i) e) ∙ w .same
+
+    module _ (h : i < n) {r : Bool} (e : r ≡ test i) where
+      all-from : every test i (n - i) ≡ (test i && every test (i + 1) (n - (i + 1)))
+      unfolding every
+      all-from =
+          let f : n - i ≡ suc (n - (i + 1)) = omega arith in
+          ap (every test i) f ∙ simp (add-one i)
+
+      pub hold-fails : r ≡ false → false ≡ every test 0 n
+      hold-fails f = sym (all-from ∙ ap (λ (b : Bool). b && every test (i + 1) (n - (i + 1))) (sym e ∙ f)) ∙ w .same
+
+      pub hold-next : r ≡ true → Holding test n (i + 1)
+      hold-next f =
+          record { room = omega arith; same = sym (all-from ∙ ap (λ (b : Bool). b && every test (i + 1) (n - (i + 1))) (sym e ∙ f)) ∙ w .same }
+
+pub ruleset holding = (hold-begins, hold-ends, hold-fails, hold-next)
+
+-- ---- the first i numbers are below n
+pub record Below (n : ℕ) (ys : List ℕ) (i : ℕ) : Type 0 where
+  pub holding : Holding (λ k. ltb (getD ys k 0) n) (length ys) i
+
+module _ {n : ℕ} {ys : List ℕ} where
+  pub below-begins : Below n ys 0
+  below-begins = record { holding = hold-begins }
+
+  module _ {i : ℕ} (w : Below n ys i) where
+    pub below-ends : length ys ≤ i → true ≡ allBelow n ys
+    unfolding allBelow
+    below-ends h = hold-ends (w .holding) h
+
+    pub below-fails : i < length ys → n ≤ getD ys i 0 → false ≡ allBelow n ys
+    unfolding allBelow
+    below-fails h g = hold-fails (w .holding) h refl (le-ltb (getD ys i 0) n g)
+
+    pub below-next : i < length ys → getD ys i 0 < n → Below n ys (i + 1)
+    below-next h g = record { holding = hold-next (w .holding) h refl (lt-ltb (getD ys i 0) n g) }
+
+pub ruleset below = (below-begins, below-ends, below-fails, below-next)

@@ -1,0 +1,52 @@
+// Where a number stands among others, whether numbers differ, and the tests of a whole range one
+// after the other.
+ghost use mathlib.Core.Path.{_≡_};
+ghost use Prim.Native.Nat.{_≤_};
+ghost use lib.ListN.{length};
+ghost use Rattle.lists.specs.Among.{indexIn, distinct};
+ghost use Rattle.lists.specs.Every.{allBelow};
+
+// The first place of a number among others; where it is none of them, how many they are.
+pub fn find(numbers: &[u32], number: u32) -> usize
+    ensures { λ r. ⌜ (r ≡ indexIn number (now (numbers .entry))) × (r ≤ length (now (numbers .entry))) ⌝ }
+{
+    let mut i = 0;
+    while i < numbers.len() {
+        if numbers[i] == number {
+            return i;
+        }
+        i += 1;
+    }
+    i
+}
+
+// Whether no number stands there twice.
+pub fn all_differ(numbers: &[u32]) -> bool
+    ensures { λ r. ⌜ r ≡ distinct (now (numbers .entry)) ⌝ }
+{
+    let mut i = 0;
+    while i < numbers.len() {
+        let number = numbers[i];
+        let rest = &numbers[i + 1..];
+        let place = find(rest, number);
+        if place < rest.len() {
+            return false;
+        }
+        i += 1;
+    }
+    true
+}
+
+// Whether every number is below a limit.
+pub fn all_below(numbers: &[u32], limit: u32) -> bool
+    ensures { λ r. ⌜ r ≡ allBelow limit (now (numbers .entry)) ⌝ }
+{
+    let mut i = 0;
+    while i < numbers.len() {
+        if limit <= numbers[i] {
+            return false;
+        }
+        i += 1;
+    }
+    true
+}

@@ -1,0 +1,68 @@
+-- The cases of a file's header, in the order of the code's tests. Assumes nothing.
+use mathlib.Core.Path.{_≡_, sym, _∙_}
+use mathlib.Core.Bool.{Bool, true, false}
+use mathlib.Core.List.{List}
+use Prim.Native.Nat.{ℕ, _+_, _%_, _≤_, _<_}
+use lib.ListN.{length}
+use borrow.Author.Tests.{lt-ltb, le-ltb, eq-eqb, ne-eqb, not-true, not-false}
+use Rattle.little.specs.Numbers.{numberAt}
+use Rattle.codes.specs.Codes.{isAt}
+use Rattle.codes.specs.declared.Code.the-variants as code
+use Rattle.units.specs.declared.Refusal.the-variants.{LengthOutOfRange, NotWave, RiffSizeWrong}
+use Rattle.units.specs.declared.Verdict.the-variants.{Accepted, Refused}
+use Rattle.riff.specs.Chunks.{headVerdict}
+
+module _ (s : List ℕ) where
+  pub head-short : length s < 12 → Refused LengthOutOfRange ≡ headVerdict s
+  unfolding headVerdict
+  head-short h = simp (lt-ltb (length s) 12 h)
+
+  module _ (h : 12 ≤ length s) where
+    pub head-long : 1073741824 < length s → Refused LengthOutOfRange ≡ headVerdict s
+    unfolding headVerdict
+    head-long g = simp (le-ltb (length s) 12 h, lt-ltb 1073741824 (length s) g)
+
+    module _ (g : length s ≤ 1073741824) {a : Bool} (e : a ≡ isAt s 0 code.Riff) where
+      pub head-no-riff : a ≡ false → Refused NotWave ≡ headVerdict s
+      unfolding headVerdict
+      head-no-riff t = simp (le-ltb (length s) 12 h, le-ltb 1073741824 (length s) g, sym e ∙ t)
+
+      module _ (t : a ≡ true) {b : Bool} (f : b ≡ isAt s 8 code.Wave) where
+        pub head-no-wave : b ≡ false → Refused NotWave ≡ headVerdict s
+        unfolding headVerdict
+        head-no-wave u = simp (le-ltb (length s) 12 h, le-ltb 1073741824 (length s) g, sym e ∙ t, sym f ∙ u)
+
+        module _ (u : b ≡ true) {n : ℕ} (v : n ≡ numberAt 4 s 4) where
+          pub head-odd : (n % 2 ≡ 0 → ⊥) → Refused RiffSizeWrong ≡ headVerdict s
+          unfolding headVerdict
+          head-odd o =
+              simp (le-ltb (length s) 12 h, le-ltb 1073741824 (length s) g, sym e ∙ t, sym f ∙ u, ← v, ne-eqb (n % 2) 0 o)
+
+          module _ (o : n % 2 ≡ 0) where
+            pub head-other : (8 + n ≡ length s → ⊥) → Refused RiffSizeWrong ≡ headVerdict s
+            unfolding headVerdict
+            head-other l =
+                simp (
+                  le-ltb (length s) 12 h,
+                  le-ltb 1073741824 (length s) g,
+                  sym e ∙ t,
+                  sym f ∙ u,
+                  ← v,
+                  eq-eqb (n % 2) 0 o,
+                  ne-eqb (8 + n) (length s) l,
+                )
+
+            pub head-right : 8 + n ≡ length s → Accepted ≡ headVerdict s
+            unfolding headVerdict
+            head-right l =
+                simp (
+                  le-ltb (length s) 12 h,
+                  le-ltb 1073741824 (length s) g,
+                  sym e ∙ t,
+                  sym f ∙ u,
+                  ← v,
+                  eq-eqb (n % 2) 0 o,
+                  eq-eqb (8 + n) (length s) l,
+                )
+
+pub ruleset heading = (head-short, head-long, head-no-riff, head-no-wave, head-odd, head-other, head-right, not-true, not-false)

@@ -1,0 +1,4 @@
+pub mod Heading
+pub mod Placing
+pub mod Walking
+pub mod Parting

@@ -1,0 +1,113 @@
+-- The walk: what is left of it at a place, and how a step goes on from there. Assumes nothing.
+use mathlib.Core.Path.{_≡_, refl, sym, ap, _∙_}
+use mathlib.Core.Bool.{Bool, true, false, cond}
+use mathlib.Core.List.{List}
+use Prim.Native.Nat.{ℕ, zero, suc, _+_, _-_, _≤_, _<_}
+use native.Mathlib.Omega.{arith}
+use lib.Dec.{ltb}
+use lib.ListN.{length}
+use borrow.Author.Tests.{lt-ltb, le-ltb}
+use Rattle.units.specs.declared.BytePlace.{BytePlace}
+use Rattle.units.specs.declared.Refusal.{Refusal}
+use Rattle.units.specs.declared.Refusal.the-variants.{ChunkPastTheEnd, SecondOfItsKind, DataBeforeFormat, WaveList}
+use Rattle.units.specs.declared.Verdict.{Verdict}
+use Rattle.units.specs.declared.Verdict.the-variants as verdict
+use Rattle.riff.specs.declared.Place.{Place}
+use Rattle.riff.specs.declared.Step.{Step}
+use Rattle.riff.specs.declared.Step.the-variants.{Chunk, Refused}
+use Rattle.riff.specs.declared.Directory.{Directory}
+use Rattle.riff.specs.declared.Walked.{Walked}
+use Rattle.riff.specs.declared.Walked.the-variants.{Whole, Stopped}
+use Rattle.riff.specs.Chunks.{headVerdict, nextAt, placed, passes, placeAt, spotOf, isThere, keep, early, waveList, checked, chunkAt}
+use Rattle.riff.specs.Walk.{nothingYet, andThen, stepsFrom, stepsOf, gather, walkOf, opened, directoryOf, refusalOf}
+
+-- ---- a chunk that was found starts before the next
+
+-- of a test that refuses, a chunk came the other way
+through : (x : Bool) (r : Refusal) (t : Step) (p : Place) → cond x (Refused r) t ≡ Chunk p → t ≡ Chunk p
+through true r t p e = let z : _≡_ {A = ℕ} 0 1 = cc in absurd (omega arith)
+through false r t p e = e
+
+unchecked : (s : List ℕ) (d : Directory) (t : Step) (p : Place) → checked s d t ≡ Chunk p → t ≡ Chunk p
+unchecked s d (Refused r) p e = e
+unchecked s d (Chunk q) p e =
+    through (waveList s q (q .kind)) WaveList (Chunk q) p
+    (through (early d (q .kind)) DataBeforeFormat _ p
+    (through (isThere (spotOf d (q .kind))) SecondOfItsKind _ p e))
+
+abbrev nextIn : Step → ℕ
+nextIn (Chunk p) = p .next .0
+nextIn (Refused r) = 0
+
+pub later : (s : List ℕ) (at : BytePlace) (d : Directory) (p : Place) → chunkAt s at d ≡ Chunk p → at .0 < p .next .0
+unfolding chunkAt placeAt
+later s at d p e =
+    let q = unchecked s d (placeAt s at) p e in
+    let n : nextAt s (at .0) ≡ p .next .0 = ap nextIn (through (passes s (at .0)) ChunkPastTheEnd (Chunk (placed s (at .0))) p q) in
+    omega arith
+
+-- ---- the walk of s is what it keeps so far and the steps that are left
+pub record Rest (s : List ℕ) (at : ℕ) (d : Directory) : Type 0 where
+  pub turns : ℕ
+  pub enough : length s ≤ at + turns
+  pub same : gather d (stepsFrom turns s (record { 0 = at }) d) ≡ walkOf s
+
+module _ (s : List ℕ) (at : ℕ) (d : Directory) where
+  abbrev here : Step
+  here = chunkAt s (record { 0 = at }) d
+
+  -- with enough turns, the walk takes one
+  one : (n : ℕ) → at < length s → stepsFrom (suc n) s (record { 0 = at }) d ≡ andThen (stepsFrom n s) d here
+  unfolding stepsFrom
+  one n h = simp (lt-ltb at (length s) h)
+
+  stops : (n : ℕ) (r : Refusal) → at < length s → length s ≤ at + n → here ≡ Refused r → Stopped r ≡ gather d (stepsFrom n s (record { 0 = at }) d)
+  unfolding gather
+  stops zero r h e t = absurd (omega arith)
+  stops (suc n) r h e t = sym (ap (gather d) (one n h ∙ ap (andThen (stepsFrom n s) d) t))
+
+  goes : (n : ℕ) (p : Place) → at < length s → length s ≤ at + n → at < p .next .0 → here ≡ Chunk p
+      → gather d (stepsFrom n s (record { 0 = at }) d) ≡ walkOf s → Rest s (p .next .0) (keep d p (p .kind))
+  unfolding gather
+  goes zero p h e m t w = absurd (omega arith)
+  goes (suc n) p h e m t w =
+      record { turns = n; enough = omega arith; same = sym (ap (gather d) (one n h ∙ ap (andThen (stepsFrom n s) d) t)) ∙ w }
+
+  ends : (n : ℕ) → length s ≤ at → Whole d ≡ gather d (stepsFrom n s (record { 0 = at }) d)
+  unfolding stepsFrom gather
+  ends zero h = refl
+  ends (suc n) h = simp (le-ltb at (length s) h)
+
+-- ---- in the words of the code
+pub walk-begins : (s : List ℕ) → Rest s 12 nothingYet
+unfolding walkOf stepsOf
+walk-begins s = record { turns = length s; enough = omega arith; same = refl }
+
+module _ {s : List ℕ} {at : ℕ} {d : Directory} (w : Rest s at d) where
+  pub walk-ends : length s ≤ at → Whole d ≡ walkOf s
+  walk-ends h = ends s at d (w .turns) h ∙ w .same
+
+  module _ (h : at < length s) {step : Step} (a : step ≡ chunkAt s (record { 0 = at }) d) where
+    pub walk-stops : {r x : Refusal} → step ≡ Refused r → x ≡ refusalOf step → Stopped x ≡ walkOf s
+    walk-stops {r} b e = ap Stopped (e ∙ ap refusalOf b) ∙ stops s at d (w .turns) r h (w .enough) (sym a ∙ b) ∙ w .same
+
+    module _ {p : Place} (b : step ≡ Chunk p) where
+      pub walk-on : {e : Directory} → e ≡ keep d p (p .kind) → Rest s (p .next .0) e
+      walk-on f = rw f (goes s at d (w .turns) p h (w .enough) (later s (record { 0 = at }) d p (sym a ∙ b)) (sym a ∙ b) (w .same))
+
+      pub walk-less : length s - p .next .0 < length s - at
+      walk-less = let k = later s (record { 0 = at }) d p (sym a ∙ b) in omega arith
+
+pub ruleset walking = (walk-begins, walk-ends, walk-stops, walk-on, walk-less)
+
+-- ---- the header before the walk
+module _ (s : List ℕ) {v : Verdict} (e : v ≡ headVerdict s) where
+  pub open-walks : {w : Walked} → v ≡ verdict.Accepted → w ≡ walkOf s → w ≡ directoryOf s
+  unfolding directoryOf
+  open-walks f g = g ∙ sym (ap (λ (u : Verdict). opened u (walkOf s)) (sym e ∙ f))
+
+  pub open-refused : {r : Refusal} → v ≡ verdict.Refused r → Stopped r ≡ directoryOf s
+  unfolding directoryOf
+  open-refused f = sym (ap (λ (u : Verdict). opened u (walkOf s)) (sym e ∙ f))
+
+pub ruleset opening = (open-walks, open-refused)

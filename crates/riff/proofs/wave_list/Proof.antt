@@ -1,0 +1,14 @@
+-- By the chunk's kind.
+use borrow.Author.Needs.{needs}
+use Rattle.riff.proofs.Placing.{waves-by}
+use Rattle.riff.proofs.wave_list.Statement.{statement}
+use Rattle.riff.proofs.wave_list.Tie as tie
+
+pub wave-list-spec : {M : Type 1} → statement M
+wave-list-spec =
+    tie.close
+    (tie.spec (λ c. search (needs, waves-by)) (λ c. search (needs, waves-by)) (λ c. search (needs, waves-by))
+    (λ c. search (needs, waves-by)) (λ c. search (needs, waves-by)) (λ c. search (needs, waves-by))
+    (λ c κs. search (needs, waves-by)) (λ c. search (needs, waves-by)) (λ c. search (needs, waves-by))
+    (λ c. search (needs, waves-by)) (λ c. search (needs, waves-by)) (λ c. search (needs, waves-by))
+    (λ c. search (needs, waves-by)) (λ c. search (needs, waves-by)) (λ c. search (needs, waves-by)))

@@ -1,0 +1,124 @@
+-- A RIFF file's header, and the chunk at a place. Assumes nothing.
+use Prim.Native.Nat.{ℕ, _+_, _%_}
+use mathlib.Core.Bool.{Bool, true, false, not, cond, _&&_, _||_}
+use mathlib.Core.List.{List}
+use lib.Dec.{ltb, leb, eqb}
+use lib.ListN.{length}
+use Rattle.little.specs.Numbers.{numberAt}
+use Rattle.codes.specs.Codes.{isAt}
+use Rattle.codes.specs.declared.Code.the-variants as code
+use Rattle.units.specs.declared.BytePlace.{BytePlace}
+use Rattle.units.specs.declared.Refusal.the-variants.{LengthOutOfRange, NotWave, RiffSizeWrong, ChunkPastTheEnd, SecondOfItsKind, DataBeforeFormat, WaveList}
+use Rattle.units.specs.declared.Verdict.{Verdict}
+use Rattle.units.specs.declared.Verdict.the-variants as verdict
+use Rattle.riff.specs.declared.Kind.{Kind}
+use Rattle.riff.specs.declared.Kind.the-variants.{Format, Sound, Fact, Cues, Plays, Listing, Other}
+use Rattle.riff.specs.declared.Place.{Place}
+use Rattle.riff.specs.declared.Step.{Step}
+use Rattle.riff.specs.declared.Step.the-variants.{Chunk, Refused}
+use Rattle.riff.specs.declared.Spot.{Spot}
+use Rattle.riff.specs.declared.Spot.the-variants.{At, Missing}
+use Rattle.riff.specs.declared.Directory.{Directory}
+
+-- ---- the header
+
+-- length under 12 or over the limit; bytes 0-3 not `RIFF` or 8-11 not `WAVE`; RIFF size R is odd, or 8+R is not the length
+unfoldable pub headVerdict : List ℕ → Verdict
+headVerdict s =
+    cond (ltb (length s) 12 || ltb 1073741824 (length s)) (verdict.Refused LengthOutOfRange)
+    (cond (not (isAt s 0 code.Riff) || not (isAt s 8 code.Wave)) (verdict.Refused NotWave)
+    (cond (not (eqb (numberAt 4 s 4 % 2) 0) || not (eqb (8 + numberAt 4 s 4) (length s))) (verdict.Refused RiffSizeWrong)
+    verdict.Accepted))
+
+-- ---- a chunk: a four-byte code, a four-byte size and that many bytes, plus one pad byte if the size is odd
+
+unfoldable pub kindAt : List ℕ → ℕ → Kind
+kindAt s at =
+    cond (isAt s at code.Format) Format
+    (cond (isAt s at code.Data) Sound
+    (cond (isAt s at code.Fact) Fact
+    (cond (isAt s at code.Cue) Cues
+    (cond (isAt s at code.Playlist) Plays
+    (cond (isAt s at code.Listing) Listing
+    Other)))))
+
+-- the size of the data, and where the next chunk starts
+abbrev pub sizeAt : List ℕ → ℕ → ℕ
+sizeAt s at = numberAt 4 s (at + 4)
+
+abbrev pub nextAt : List ℕ → ℕ → ℕ
+nextAt s at = at + 8 + sizeAt s at + sizeAt s at % 2
+
+-- the chunk whose header stands at a place
+abbrev pub placed : List ℕ → ℕ → Place
+placed s at =
+    record { kind = kindAt s at; start = record { 0 = at + 8 }; size = record { 0 = sizeAt s at }; next = record { 0 = nextAt s at } }
+
+-- its header, or its data with pad, passes the end
+abbrev pub passes : List ℕ → ℕ → Bool
+passes s at = ltb (length s) (at + 8) || ltb (length s) (nextAt s at)
+
+unfoldable pub placeAt : List ℕ → BytePlace → Step
+placeAt s at = cond (passes s (at .0)) (Refused ChunkPastTheEnd) (Chunk (placed s (at .0)))
+
+-- ---- what was met before it
+
+abbrev pub isThere : Spot → Bool
+isThere (At p) = true
+isThere Missing = false
+
+-- where a chunk of a kind was met; of the last two, any number may be
+abbrev pub spotOf : Directory → Kind → Spot
+spotOf d Format = d .format
+spotOf d Sound = d .sound
+spotOf d Fact = d .fact
+spotOf d Cues = d .cues
+spotOf d Plays = d .plays
+spotOf d Listing = Missing
+spotOf d Other = Missing
+
+-- the directory with one chunk more
+abbrev pub keep : Directory → Place → Kind → Directory
+keep d p Format = record { format = At p; sound = d .sound; fact = d .fact; cues = d .cues; plays = d .plays }
+keep d p Sound = record { format = d .format; sound = At p; fact = d .fact; cues = d .cues; plays = d .plays }
+keep d p Fact = record { format = d .format; sound = d .sound; fact = At p; cues = d .cues; plays = d .plays }
+keep d p Cues = record { format = d .format; sound = d .sound; fact = d .fact; cues = At p; plays = d .plays }
+keep d p Plays = record { format = d .format; sound = d .sound; fact = d .fact; cues = d .cues; plays = At p }
+keep d p Listing = d
+keep d p Other = d
+
+-- `data` before any `fmt `
+abbrev pub early : Directory → Kind → Bool
+early d Format = false
+early d Sound = not (isThere (d .format))
+early d Fact = false
+early d Cues = false
+early d Plays = false
+early d Listing = false
+early d Other = false
+
+-- a `LIST` whose data starts with `wavl`
+unfoldable pub startsAsWaves : List ℕ → Place → Bool
+startsAsWaves s p = leb 4 (p .size .0) && isAt s (p .start .0) code.WaveList
+
+abbrev pub waveList : List ℕ → Place → Kind → Bool
+waveList s p Format = false
+waveList s p Sound = false
+waveList s p Fact = false
+waveList s p Cues = false
+waveList s p Plays = false
+waveList s p Listing = startsAsWaves s p
+waveList s p Other = false
+
+-- ---- a step of the walk: at one chunk 4, 5, 6, 7 in that order
+
+abbrev pub checked : List ℕ → Directory → Step → Step
+checked s d (Refused r) = Refused r
+checked s d (Chunk p) =
+    cond (isThere (spotOf d (p .kind))) (Refused SecondOfItsKind)
+    (cond (early d (p .kind)) (Refused DataBeforeFormat)
+    (cond (waveList s p (p .kind)) (Refused WaveList)
+    (Chunk p)))
+
+unfoldable pub chunkAt : List ℕ → BytePlace → Directory → Step
+chunkAt s at d = checked s d (placeAt s at)

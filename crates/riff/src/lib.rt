@@ -1,0 +1,347 @@
+// The chunks of a RIFF file: its header, the walk over the chunks from byte 12, and the directory of
+// those that a WAVE file is read by.
+//
+// A step of the walk is a chunk's place or the refusal that ends the walk.
+use codes::Code;
+use units::BytePlace;
+use units::Refusal;
+use units::Verdict;
+ghost use mathlib.Core.Path.{_≡_};
+ghost use lib.ListN.{take, drop};
+ghost use Rattle.riff.specs.Chunks.{headVerdict, kindAt, placeAt, spotOf, isThere, early, startsAsWaves, waveList, chunkAt, keep};
+ghost use Rattle.riff.specs.Walk.{refusalOf, walkOf, directoryOf, partOf};
+
+// The longest file, in bytes.
+pub const LIMIT: usize = 1073741824;
+
+// What a chunk is to the walk.
+pub enum Kind {
+    Format,
+    Sound,
+    Fact,
+    Cues,
+    Plays,
+    Listing,
+    Other,
+}
+
+// A chunk: where its data start, how many bytes they are, and where the next chunk starts.
+pub struct Place {
+    pub kind: Kind,
+    pub start: BytePlace,
+    pub size: BytePlace,
+    pub next: BytePlace,
+}
+
+// A step of the walk.
+pub enum Step {
+    Chunk(Place),
+    Refused(Refusal),
+}
+
+// A chunk that may not have been met.
+pub enum Spot {
+    At(Place),
+    Missing,
+}
+
+// Where the chunks stand that a file is read by.
+pub struct Directory {
+    pub format: Spot,
+    pub sound: Spot,
+    pub fact: Spot,
+    pub cues: Spot,
+    pub plays: Spot,
+}
+
+// What a walk ends with.
+pub enum Walked {
+    Whole(Directory),
+    Stopped(Refusal),
+}
+
+// Whether the length, the two codes and the size at the start of a file are right.
+pub fn head(file: &[u8]) -> Verdict
+    ensures { λ r. ⌜ r ≡ headVerdict (now (file .entry)) ⌝ }
+{
+    if file.len() < 12 {
+        return Verdict::Refused(Refusal::LengthOutOfRange);
+    }
+    if LIMIT < file.len() {
+        return Verdict::Refused(Refusal::LengthOutOfRange);
+    }
+    let riff = codes::is_at(file, 0, Code::Riff);
+    if !riff {
+        return Verdict::Refused(Refusal::NotWave);
+    }
+    let wave = codes::is_at(file, 8, Code::Wave);
+    if !wave {
+        return Verdict::Refused(Refusal::NotWave);
+    }
+    let size = little::u32_at(file, 4) as usize;
+    if size % 2 != 0 {
+        return Verdict::Refused(Refusal::RiffSizeWrong);
+    }
+    if 8 + size != file.len() {
+        return Verdict::Refused(Refusal::RiffSizeWrong);
+    }
+    Verdict::Accepted
+}
+
+// What the chunk at a place is, by its code.
+fn kind_at(file: &[u8], at: usize) -> Kind
+    ensures { λ r. ⌜ r ≡ kindAt (now (file .entry)) at ⌝ }
+{
+    if codes::is_at(file, at, Code::Format) {
+        return Kind::Format;
+    }
+    if codes::is_at(file, at, Code::Data) {
+        return Kind::Sound;
+    }
+    if codes::is_at(file, at, Code::Fact) {
+        return Kind::Fact;
+    }
+    if codes::is_at(file, at, Code::Cue) {
+        return Kind::Cues;
+    }
+    if codes::is_at(file, at, Code::Playlist) {
+        return Kind::Plays;
+    }
+    if codes::is_at(file, at, Code::Listing) {
+        return Kind::Listing;
+    }
+    Kind::Other
+}
+
+// The chunk that starts at a place, where it fits the file.
+fn place_at(file: &[u8], at: BytePlace) -> Step
+    ensures { λ r. ⌜ r ≡ placeAt (now (file .entry)) at ⌝ }
+{
+    let a = at.0;
+    if file.len() < 8 {
+        return Step::Refused(Refusal::ChunkPastTheEnd);
+    }
+    if file.len() - 8 < a {
+        return Step::Refused(Refusal::ChunkPastTheEnd);
+    }
+    let size = little::u32_at(file, a + 4) as usize;
+    let end = a + 8 + size;
+    let next = end + size % 2;
+    if file.len() < next {
+        return Step::Refused(Refusal::ChunkPastTheEnd);
+    }
+    let kind = kind_at(file, a);
+    Step::Chunk(Place {
+        kind: kind,
+        start: BytePlace(a + 8),
+        size: BytePlace(size),
+        next: BytePlace(next),
+    })
+}
+
+// Where a chunk of some kind was met.
+fn spot_of(seen: Directory, kind: Kind) -> Spot
+    ensures { λ r. ⌜ r ≡ spotOf seen kind ⌝ }
+{
+    match kind {
+        Kind::Format => seen.format,
+        Kind::Sound => seen.sound,
+        Kind::Fact => seen.fact,
+        Kind::Cues => seen.cues,
+        Kind::Plays => seen.plays,
+        Kind::Listing => Spot::Missing,
+        Kind::Other => Spot::Missing,
+    }
+}
+
+// Whether a chunk was met.
+pub fn there(spot: Spot) -> bool
+    ensures { λ r. ⌜ r ≡ isThere spot ⌝ }
+{
+    match spot {
+        Spot::At(_) => true,
+        Spot::Missing => false,
+    }
+}
+
+// Whether a chunk is the sound, before any format.
+fn too_early(seen: Directory, kind: Kind) -> bool
+    ensures { λ r. ⌜ r ≡ early seen kind ⌝ }
+{
+    let format = seen.format;
+    match kind {
+        Kind::Format => false,
+        Kind::Sound => !there(format),
+        Kind::Fact => false,
+        Kind::Cues => false,
+        Kind::Plays => false,
+        Kind::Listing => false,
+        Kind::Other => false,
+    }
+}
+
+// Whether a chunk's data starts with `wavl`.
+fn starts_as_waves(file: &[u8], place: Place) -> bool
+    ensures { λ r. ⌜ r ≡ startsAsWaves (now (file .entry)) place ⌝ }
+{
+    if place.size.0 < 4 {
+        return false;
+    }
+    codes::is_at(file, place.start.0, Code::WaveList)
+}
+
+// Whether a chunk is a list of waves.
+fn wave_list(file: &[u8], place: Place) -> bool
+    ensures { λ r. ⌜ r ≡ waveList (now (file .entry)) place (place .kind) ⌝ }
+{
+    let kind = place.kind;
+    match kind {
+        Kind::Format => false,
+        Kind::Sound => false,
+        Kind::Fact => false,
+        Kind::Cues => false,
+        Kind::Plays => false,
+        Kind::Listing => starts_as_waves(file, place),
+        Kind::Other => false,
+    }
+}
+
+// The chunk at a place, or the refusal that ends the walk there.
+pub fn chunk_at(file: &[u8], at: BytePlace, seen: Directory) -> Step
+    ensures { λ r. ⌜ r ≡ chunkAt (now (file .entry)) at seen ⌝ }
+{
+    let step = place_at(file, at);
+    let Step::Chunk(place) = step else {
+        return step;
+    };
+    let kind = place.kind;
+    let spot = spot_of(seen, kind);
+    if there(spot) {
+        return Step::Refused(Refusal::SecondOfItsKind);
+    }
+    if too_early(seen, kind) {
+        return Step::Refused(Refusal::DataBeforeFormat);
+    }
+    if wave_list(file, place) {
+        return Step::Refused(Refusal::WaveList);
+    }
+    Step::Chunk(place)
+}
+
+// The directory with one chunk more.
+fn kept(seen: Directory, place: Place) -> Directory
+    ensures { λ r. ⌜ r ≡ keep seen place (place .kind) ⌝ }
+{
+    let kind = place.kind;
+    let format = seen.format;
+    let sound = seen.sound;
+    let fact = seen.fact;
+    let cues = seen.cues;
+    let plays = seen.plays;
+    let here = Spot::At(place);
+    match kind {
+        Kind::Format => Directory {
+            format: here,
+            sound: sound,
+            fact: fact,
+            cues: cues,
+            plays: plays,
+        },
+        Kind::Sound => Directory {
+            format: format,
+            sound: here,
+            fact: fact,
+            cues: cues,
+            plays: plays,
+        },
+        Kind::Fact => Directory {
+            format: format,
+            sound: sound,
+            fact: here,
+            cues: cues,
+            plays: plays,
+        },
+        Kind::Cues => Directory {
+            format: format,
+            sound: sound,
+            fact: fact,
+            cues: here,
+            plays: plays,
+        },
+        Kind::Plays => Directory {
+            format: format,
+            sound: sound,
+            fact: fact,
+            cues: cues,
+            plays: here,
+        },
+        Kind::Listing => seen,
+        Kind::Other => seen,
+    }
+}
+
+// The refusal that a step is; of a chunk, that it is none.
+fn refusal_of(step: Step) -> Refusal
+    ensures { λ r. ⌜ r ≡ refusalOf step ⌝ }
+{
+    match step {
+        Step::Chunk(_) => Refusal::ChunkPastTheEnd,
+        Step::Refused(refusal) => refusal,
+    }
+}
+
+// The walk over the chunks from byte 12.
+fn walk(file: &[u8]) -> Walked
+    ensures { λ r. ⌜ r ≡ walkOf (now (file .entry)) ⌝ }
+{
+    let mut at: usize = 12;
+    let mut seen = Directory {
+        format: Spot::Missing,
+        sound: Spot::Missing,
+        fact: Spot::Missing,
+        cues: Spot::Missing,
+        plays: Spot::Missing,
+    };
+    while at < file.len() {
+        let step = chunk_at(file, BytePlace(at), seen);
+        let Step::Chunk(place) = step else {
+            return Walked::Stopped(refusal_of(step));
+        };
+        seen = kept(seen, place);
+        at = place.next.0;
+    }
+    Walked::Whole(seen)
+}
+
+// The directory of a file, or why it has none: the refusals 1 to 7.
+pub fn chunks(file: &[u8]) -> Walked
+    ensures { λ r. ⌜ r ≡ directoryOf (now (file .entry)) ⌝ }
+{
+    match head(file) {
+        Verdict::Accepted => walk(file),
+        Verdict::Refused(refusal) => Walked::Stopped(refusal),
+    }
+}
+
+// The n bytes of a file from a place, or as many as there are.
+fn bytes_from(file: &[u8], from: usize, n: usize) -> &[u8]
+    ensures { λ r. ⌜ now r ≡ take n (drop from (now (file .entry))) ⌝ }
+{
+    if file.len() <= from {
+        return &file[..0];
+    }
+    if file.len() - from <= n {
+        return &file[from..];
+    }
+    &file[from..from + n]
+}
+
+// A chunk's data, that very part of the file; of a chunk that is missing, what is lent in its place.
+pub fn part<'a>(file: &'a [u8], spot: Spot, absent: &'a [u8]) -> &'a [u8]
+    ensures { λ r. ⌜ now r ≡ partOf (now (file .entry)) spot (now (absent .entry)) ⌝ }
+{
+    match spot {
+        Spot::At(place) => bytes_from(file, place.start.0, place.size.0),
+        Spot::Missing => absent,
+    }
+}
