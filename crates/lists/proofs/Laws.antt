@@ -3,6 +3,7 @@ use mathlib.Core.Path.{_≡_, refl, sym, ap, _∙_}
 use mathlib.Core.Bool.{Bool, true, false, not, cond, _&&_}
 use mathlib.Core.List.{List, [], _∷_}
 use Prim.Native.Nat.{ℕ, zero, suc, _+_, _-_, _≤_, _<_}
+use native.Mathlib.Nat.{le-of-lt}
 use native.Mathlib.Numerals.{add-one}
 use native.Mathlib.Omega.{arith}
 use lib.Dec.{eqb, ltb}
@@ -144,4 +145,4 @@ module _ {n : ℕ} {ys : List ℕ} where
     pub below-next : i < length ys → getD ys i 0 < n → Below n ys (i + 1)
     below-next h g = record { holding = hold-next (w .holding) h refl (lt-ltb (getD ys i 0) n g) }
 
-pub ruleset below = (below-begins, below-ends, below-fails, below-next)
+pub ruleset below = (below-begins, below-ends, below-fails, below-next, le-of-lt)

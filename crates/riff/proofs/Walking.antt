@@ -6,10 +6,10 @@ use Prim.Native.Nat.{ℕ, zero, suc, _+_, _-_, _≤_, _<_}
 use native.Mathlib.Omega.{arith}
 use lib.Dec.{ltb}
 use lib.ListN.{length}
-use borrow.Author.Tests.{lt-ltb, le-ltb}
+use borrow.Author.Tests.{lt-ltb, le-ltb, ltb-true, ltb-false}
 use Rattle.units.specs.declared.BytePlace.{BytePlace}
 use Rattle.units.specs.declared.Refusal.{Refusal}
-use Rattle.units.specs.declared.Refusal.the-variants.{ChunkPastTheEnd, SecondOfItsKind, DataBeforeFormat, WaveList}
+use Rattle.units.specs.declared.Refusal.the-variants.{LengthOutOfRange, ChunkPastTheEnd, SecondOfItsKind, DataBeforeFormat, WaveList}
 use Rattle.units.specs.declared.Verdict.{Verdict}
 use Rattle.units.specs.declared.Verdict.the-variants as verdict
 use Rattle.riff.specs.declared.Place.{Place}
@@ -20,6 +20,7 @@ use Rattle.riff.specs.declared.Walked.{Walked}
 use Rattle.riff.specs.declared.Walked.the-variants.{Whole, Stopped}
 use Rattle.riff.specs.Chunks.{headVerdict, nextAt, placed, passes, placeAt, spotOf, isThere, keep, early, waveList, checked, chunkAt}
 use Rattle.riff.specs.Walk.{nothingYet, andThen, stepsFrom, stepsOf, gather, walkOf, opened, directoryOf, refusalOf}
+use Rattle.riff.proofs.Heading.{head-long}
 
 -- ---- a chunk that was found starts before the next
 
@@ -111,3 +112,15 @@ module _ (s : List ℕ) {v : Verdict} (e : v ≡ headVerdict s) where
   open-refused f = sym (ap (λ (u : Verdict). opened u (walkOf s)) (sym e ∙ f))
 
 pub ruleset opening = (open-walks, open-refused)
+
+-- a file with a directory is not too long
+pub whole-limit : (s : List ℕ) {w : Walked} {d : Directory} → w ≡ directoryOf s → w ≡ Whole d → length s ≤ 1073741824
+whole-limit s {w} {d} e f = by (ltb 1073741824 (length s)) refl
+  where
+    by : (b : Bool) → ltb 1073741824 (length s) ≡ b → length s ≤ 1073741824
+    by true t =
+        let l = ltb-true 1073741824 (length s) t in
+        let r : Stopped LengthOutOfRange ≡ directoryOf s = open-refused s refl (sym (head-long s (omega arith) l)) in
+        let z : _≡_ {A = ℕ} 0 1 = cc in
+        absurd (omega arith)
+    by false t = ltb-false 1073741824 (length s) t

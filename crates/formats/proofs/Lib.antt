@@ -1,0 +1,4 @@
+pub mod Counts
+pub mod Forms
+pub mod Pairs
+pub mod Rules

@@ -1,0 +1,323 @@
+// What the chunks `fmt `, `data` and `fact` say, and the rules that they must keep.
+//
+// What a chunk says is a total value of its bytes. What it must keep is split in two: its form, of
+// the bytes alone, and its rule, of the value; a writer needs the rule and not the form.
+use units::BytePlace;
+use units::Frames;
+ghost use mathlib.Core.Path.{_≡_};
+ghost use mathlib.Core.Bool.{_||_};
+ghost use Prim.Native.Nat.{_≤_, _<_};
+ghost use lib.Dec.{eqb};
+ghost use Rattle.formats.specs.Format.{formatOf, samplesIn, extended, pairsForm, average, formatForm};
+ghost use Rattle.formats.specs.Format.{shared, pcmRule, blocked, imaRule, microsoftRule, formatRule};
+ghost use Rattle.formats.specs.Frames.{wholeBlocks, framesOf, factForm, needsFact, blocksIn, countFits, framesRule};
+
+pub const PCM: u16 = 1;
+
+pub const MICROSOFT: u16 = 2;
+
+pub const IMA: u16 = 17;
+
+// The seven pairs of a Microsoft `fmt `.
+pub const PAIRS: [i16; 14] = [
+    256,
+    0,
+    512,
+    -256,
+    0,
+    0,
+    192,
+    64,
+    240,
+    0,
+    460,
+    -208,
+    392,
+    -232,
+];
+
+// How the sound is coded; samples is the samples of a block in each channel, 1 for PCM.
+pub struct Format {
+    pub tag: u16,
+    pub channels: u16,
+    pub rate: u32,
+    pub bits: u16,
+    pub align: u16,
+    pub samples: u16,
+}
+
+// The samples of a block, as a `fmt ` stores them.
+fn samples_in(bytes: &[u8], tag: u16) -> u16
+    ensures { λ r. ⌜ r ≡ samplesIn (now (bytes .entry)) tag ⌝ }
+{
+    if tag == PCM {
+        return 1;
+    }
+    little::u16_or_zero(bytes, 18)
+}
+
+// What a `fmt ` says.
+pub fn format_of(bytes: &[u8]) -> Format
+    ensures { λ r. ⌜ r ≡ formatOf (now (bytes .entry)) ⌝ }
+{
+    let tag = little::u16_or_zero(bytes, 0);
+    Format {
+        tag: tag,
+        channels: little::u16_or_zero(bytes, 2),
+        rate: little::u32_or_zero(bytes, 4),
+        bits: little::u16_or_zero(bytes, 14),
+        align: little::u16_or_zero(bytes, 12),
+        samples: samples_in(bytes, tag),
+    }
+}
+
+// Whether a `fmt ` is of some size, and has an extension of some size within it.
+fn has_extension(bytes: &[u8], size: usize, extension: usize) -> bool
+    ensures { λ r. ⌜ r ≡ extended size extension (now (bytes .entry)) ⌝ }
+{
+    if bytes.len() < size {
+        return false;
+    }
+    let stored = little::u16_or_zero(bytes, 16) as usize;
+    if stored < extension {
+        return false;
+    }
+    18 + stored <= bytes.len()
+}
+
+// Whether the seven pairs follow a pair count of 7.
+fn has_pairs(bytes: &[u8]) -> bool
+    ensures { λ r. ⌜ r ≡ pairsForm (now (bytes .entry)) ⌝ }
+{
+    let count = little::u16_or_zero(bytes, 20);
+    if count != 7 {
+        return false;
+    }
+    let pairs = PAIRS;
+    let mut i = 0;
+    while i < 14 {
+        let wanted = samples::to_bits(pairs[i]);
+        let stored = little::u16_or_zero(bytes, 22 + 2 * i);
+        if stored != wanted {
+            return false;
+        }
+        i += 1;
+    }
+    true
+}
+
+// Whether the average is rate x align.
+fn has_average(bytes: &[u8]) -> bool
+    ensures { λ r. ⌜ r ≡ average (now (bytes .entry)) ⌝ }
+{
+    let rate = little::u32_or_zero(bytes, 4) as u64;
+    let align = little::u16_or_zero(bytes, 12) as u64;
+    let stored = little::u32_or_zero(bytes, 8) as u64;
+    stored == rate * align
+}
+
+// Whether a `fmt ` has the form that its tag asks for.
+pub fn format_form(bytes: &[u8]) -> bool
+    ensures { λ r. ⌜ r ≡ formatForm (now (bytes .entry)) ⌝ }
+{
+    if bytes.len() < 16 {
+        return false;
+    }
+    let tag = little::u16_or_zero(bytes, 0);
+    if tag == PCM {
+        return has_average(bytes);
+    }
+    if tag == IMA {
+        return has_extension(bytes, 20, 2);
+    }
+    if tag != MICROSOFT {
+        return false;
+    }
+    let extended = has_extension(bytes, 50, 32);
+    if !extended {
+        return false;
+    }
+    has_pairs(bytes)
+}
+
+// Whether the channels and the rate are ones that are taken.
+fn shared_rule(format: Format) -> bool
+    ensures { λ r. ⌜ r ≡ shared format ⌝ }
+{
+    if format.channels < 1 {
+        return false;
+    }
+    if 2 < format.channels {
+        return false;
+    }
+    if format.rate < 1 {
+        return false;
+    }
+    format.rate <= 192000
+}
+
+// Whether PCM sound may have so many bits.
+fn pcm_bits(bits: u16) -> bool
+    ensures { λ r. ⌜ r ≡ (eqb bits 8 || eqb bits 16) ⌝ }
+{
+    if bits == 8 {
+        return true;
+    }
+    bits == 16
+}
+
+// Whether PCM sound has 8 or 16 bits, and frames of that size.
+fn pcm_rule(format: Format) -> bool
+    ensures { λ r. ⌜ r ≡ pcmRule format ⌝ }
+{
+    let taken = pcm_bits(format.bits);
+    if !taken {
+        return false;
+    }
+    let frame = format.channels as u32 * format.bits as u32 / 8;
+    if format.align as u32 != frame {
+        return false;
+    }
+    format.samples == 1
+}
+
+// Whether ADPCM sound has 4 bits, and blocks of a size that is taken.
+fn blocked_rule(format: Format) -> bool
+    ensures { λ r. ⌜ r ≡ blocked format ⌝ }
+{
+    if format.bits != 4 {
+        return false;
+    }
+    let align = format.align as u32;
+    if align < 8 * (format.channels as u32) {
+        return false;
+    }
+    align <= 4096
+}
+
+// Whether IMA blocks hold whole words, and the samples that fill them.
+fn ima_rule(format: Format) -> bool
+    requires { ⌜ 1 ≤ format .channels ⌝ }
+    ensures { λ r. ⌜ r ≡ imaRule format ⌝ }
+{
+    let blocked = blocked_rule(format);
+    if !blocked {
+        return false;
+    }
+    let align = format.align as u32;
+    let channels = format.channels as u32;
+    if align % (4 * channels) != 0 {
+        return false;
+    }
+    format.samples as u32 == (align - 4 * channels) * 2 / channels + 1
+}
+
+// Whether Microsoft blocks hold the samples that fill them.
+fn microsoft_rule(format: Format) -> bool
+    requires { ⌜ 1 ≤ format .channels ⌝ }
+    ensures { λ r. ⌜ r ≡ microsoftRule format ⌝ }
+{
+    let blocked = blocked_rule(format);
+    if !blocked {
+        return false;
+    }
+    let align = format.align as u32;
+    let channels = format.channels as u32;
+    format.samples as u32 == (align - 7 * channels) * 2 / channels + 2
+}
+
+// Whether what a `fmt ` says is taken.
+pub fn format_rule(format: Format) -> bool
+    ensures { λ r. ⌜ r ≡ formatRule format ⌝ }
+{
+    let shared = shared_rule(format);
+    if !shared {
+        return false;
+    }
+    let tag = format.tag;
+    if tag == PCM {
+        return pcm_rule(format);
+    }
+    if tag == IMA {
+        return ima_rule(format);
+    }
+    if tag != MICROSOFT {
+        return false;
+    }
+    microsoft_rule(format)
+}
+
+// How many whole blocks some bytes of sound are; none, where a block has no bytes.
+fn blocks_in(format: Format, sound: BytePlace) -> usize
+    ensures { λ r. ⌜ r ≡ blocksIn format sound ⌝ }
+{
+    let align = format.align as usize;
+    if align < 1 {
+        return 0;
+    }
+    sound.0 / align
+}
+
+// Whether sound data are whole frames or blocks.
+pub fn whole_blocks(format: Format, sound: BytePlace) -> bool
+    ensures { λ r. ⌜ r ≡ wholeBlocks format sound ⌝ }
+{
+    let align = format.align as usize;
+    if align < 1 {
+        return false;
+    }
+    sound.0 % align == 0
+}
+
+// The frames of the sound: of PCM by its length, of ADPCM by the fact.
+pub fn frames_of(format: Format, sound: BytePlace, fact: &[u8]) -> Frames
+    requires { ⌜ sound .0 < 4294967296 ⌝ }
+    ensures { λ r. ⌜ r ≡ framesOf format sound (now (fact .entry)) ⌝ }
+{
+    if format.tag == PCM {
+        let blocks = blocks_in(format, sound);
+        return Frames(blocks as u32);
+    }
+    Frames(little::u32_or_zero(fact, 0))
+}
+
+// Whether a fact has room for its count.
+pub fn fact_form(fact: &[u8]) -> bool
+    ensures { λ r. ⌜ r ≡ factForm (now (fact .entry)) ⌝ }
+{
+    4 <= fact.len()
+}
+
+// Whether sound of this format needs a fact.
+pub fn needs_fact(format: Format) -> bool
+    ensures { λ r. ⌜ r ≡ needsFact format ⌝ }
+{
+    format.tag != PCM
+}
+
+// Whether a number of frames fills some blocks, the last one whole or in part. No product is made, as
+// it may pass 64 bits: the blocks that the frames fill are a quotient, rounded up.
+fn count_fits(blocks: usize, samples: u16, frames: u32) -> bool
+    ensures { λ r. ⌜ r ≡ countFits blocks samples frames ⌝ }
+{
+    if blocks == 0 {
+        return frames == 0;
+    }
+    if samples < 1 {
+        return false;
+    }
+    let each = samples as usize;
+    let filled = (frames as usize + each - 1) / each;
+    filled == blocks
+}
+
+// Whether a number of frames is one that some bytes of sound can have.
+pub fn frames_rule(format: Format, sound: BytePlace, frames: Frames) -> bool
+    ensures { λ r. ⌜ r ≡ framesRule format sound frames ⌝ }
+{
+    let blocks = blocks_in(format, sound);
+    if format.tag == PCM {
+        return frames.0 as usize == blocks;
+    }
+    count_fits(blocks, format.samples, frames.0)
+}

@@ -1,0 +1,92 @@
+-- What a file holds: a record and its sound, or the refusal. Assumes nothing.
+use Prim.Native.Nat.{ℕ}
+use mathlib.Core.Bool.{cond, _&&_}
+use mathlib.Core.List.{List, [], _∷_}
+use lib.ListN.{length}
+use Rattle.units.specs.declared.BytePlace.{BytePlace}
+use Rattle.units.specs.declared.Refusal.{Refusal}
+use Rattle.units.specs.declared.Refusal.the-variants.{FormatOrDataMissing}
+use Rattle.units.specs.declared.Verdict.{Verdict}
+use Rattle.units.specs.declared.Verdict.the-variants.{Accepted, Refused}
+use Rattle.riff.specs.declared.Directory.{Directory}
+use Rattle.riff.specs.declared.Walked.{Walked}
+use Rattle.riff.specs.declared.Walked.the-variants.{Whole, Stopped}
+use Rattle.riff.specs.Chunks.{isThere}
+use Rattle.riff.specs.Walk.{partOf, directoryOf}
+use Rattle.formats.specs.Format.{formatOf}
+use Rattle.formats.specs.Frames.{needsFact}
+use Rattle.rules.specs.declared.Record.{Record}
+use Rattle.rules.specs.declared.Reading.{Reading}
+use Rattle.rules.specs.Rules.{recordOf, verdictOf, turnedAway}
+
+-- ---- the bytes of each chunk
+
+-- an absent table is read as a count of 0; an absent fact as nothing, which is too short, and where none is needed as zeros
+abbrev pub zeros : List ℕ
+zeros = 0 ∷ 0 ∷ 0 ∷ 0 ∷ []
+
+abbrev pub formatPart : List ℕ → Directory → List ℕ
+formatPart s d = partOf s (d .format) []
+
+abbrev pub soundPart : List ℕ → Directory → List ℕ
+soundPart s d = partOf s (d .sound) []
+
+abbrev pub soundSize : List ℕ → Directory → BytePlace
+soundSize s d = record { 0 = length (soundPart s d) }
+
+abbrev pub factPart : List ℕ → Directory → List ℕ
+factPart s d = partOf s (d .fact) (cond (needsFact (formatOf (formatPart s d))) [] zeros)
+
+abbrev pub cuePart : List ℕ → Directory → List ℕ
+cuePart s d = partOf s (d .cues) zeros
+
+abbrev pub playlistPart : List ℕ → Directory → List ℕ
+playlistPart s d = partOf s (d .plays) zeros
+
+-- ---- what a file holds
+
+pub data Content : Type 0 where
+  refused : Refusal → Content
+  holds : Record → List ℕ → Content
+
+-- a record and its sound where the verdict takes them
+abbrev pub taken : Verdict → Record → List ℕ → Content
+taken Accepted m w = holds m w
+taken (Refused r) m w = refused r
+
+-- what the chunks say
+abbrev pub recordAt : List ℕ → Directory → Record
+recordAt s d = recordOf (formatPart s d) (soundSize s d) (factPart s d) (cuePart s d) (playlistPart s d)
+
+-- 9 to 13
+abbrev pub verdictAt : List ℕ → Directory → Verdict
+verdictAt s d = verdictOf (formatPart s d) (soundSize s d) (factPart s d) (cuePart s d) (playlistPart s d) (recordAt s d)
+
+-- 8: no `fmt ` or no `data`; then 9 to 13
+unfoldable pub contentAt : List ℕ → Directory → Content
+contentAt s d =
+    cond (isThere (d .format) && isThere (d .sound)) (taken (verdictAt s d) (recordAt s d) (soundPart s d)) (refused FormatOrDataMissing)
+
+-- 1 to 7, then 8 to 13
+abbrev pub contentIn : List ℕ → Walked → Content
+contentIn s (Whole d) = contentAt s d
+contentIn s (Stopped r) = refused r
+
+unfoldable pub contentOf : List ℕ → Content
+contentOf s = contentIn s (directoryOf s)
+
+-- ---- what the two operations tell of it
+
+abbrev pub readingOf : Content → Reading
+readingOf (refused r) = turnedAway r
+readingOf (holds m w) = record { verdict = Accepted; made = m }
+
+abbrev pub soundOf : Content → List ℕ
+soundOf (refused r) = []
+soundOf (holds m w) = w
+
+unfoldable pub reading : List ℕ → Reading
+reading s = readingOf (contentOf s)
+
+unfoldable pub soundIn : List ℕ → List ℕ
+soundIn s = soundOf (contentOf s)

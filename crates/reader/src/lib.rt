@@ -1,0 +1,98 @@
+// Reading a WAVE file: its record, and its sound as that very part of the file.
+//
+// The cost goes by the number of chunks; the sound is not looked at.
+use formats::Format;
+use riff::Directory;
+use riff::Spot;
+use riff::Walked;
+use rules::Reading;
+use units::BytePlace;
+use units::Refusal;
+use units::Verdict;
+ghost use mathlib.Core.Path.{_≡_};
+ghost use Prim.Native.Nat.{_≤_};
+ghost use mathlib.Core.Bool.{cond};
+ghost use lib.ListN.{length};
+ghost use Rattle.formats.specs.Frames.{needsFact};
+ghost use Rattle.riff.specs.Walk.{partOf};
+ghost use Rattle.rules.specs.Rules.{answer};
+ghost use Rattle.reader.specs.Content.{verdictAt, recordAt, contentAt, readingOf, reading, soundIn};
+
+// The bytes of the `fact`; of an absent one, what is lent for it where it is needed and where not.
+fn fact_part<'a>(
+    file: &'a [u8],
+    spot: Spot,
+    format: Format,
+    needed: &'a [u8],
+    needless: &'a [u8],
+) -> &'a [u8]
+    ensures { λ r. ⌜ now r ≡ partOf (now (file .entry)) spot (cond (needsFact format) (now (needed .entry)) (now (needless .entry))) ⌝ }
+{
+    if formats::needs_fact(format) {
+        return riff::part(file, spot, needed);
+    }
+    riff::part(file, spot, needless)
+}
+
+// What the chunks of a file say, and the verdict on it.
+fn read_parts(file: &[u8], places: Directory) -> Reading
+    requires { ⌜ length (now file) ≤ 1073741824 ⌝ }
+    ensures { λ r. ⌜ r ≡ answer (verdictAt (now (file .entry)) places) (recordAt (now (file .entry)) places) ⌝ }
+{
+    let format_spot = places.format;
+    let sound_spot = places.sound;
+    let fact_spot = places.fact;
+    let cues_spot = places.cues;
+    let plays_spot = places.plays;
+    let fmt = riff::part(file, format_spot, b"");
+    let sound = riff::part(file, sound_spot, b"");
+    let format = formats::format_of(fmt);
+    let fact = fact_part(file, fact_spot, format, b"", b"\0\0\0\0");
+    let cue = riff::part(file, cues_spot, b"\0\0\0\0");
+    let plst = riff::part(file, plays_spot, b"\0\0\0\0");
+    rules::judge(fmt, BytePlace(sound.len()), fact, cue, plst)
+}
+
+// What a file with these chunks says.
+fn read_chunks(file: &[u8], places: Directory) -> Reading
+    requires { ⌜ length (now file) ≤ 1073741824 ⌝ }
+    ensures { λ r. ⌜ r ≡ readingOf (contentAt (now (file .entry)) places) ⌝ }
+{
+    let format = places.format;
+    let sound = places.sound;
+    if !riff::there(format) {
+        return rules::turned_away(Refusal::FormatOrDataMissing);
+    }
+    if !riff::there(sound) {
+        return rules::turned_away(Refusal::FormatOrDataMissing);
+    }
+    read_parts(file, places)
+}
+
+// The record of a file, or the refusal.
+pub fn read(file: &[u8]) -> Reading
+    ensures { λ r. ⌜ r ≡ reading (now (file .entry)) ⌝ }
+{
+    let walked = riff::chunks(file);
+    match walked {
+        Walked::Whole(places) => read_chunks(file, places),
+        Walked::Stopped(refusal) => rules::turned_away(refusal),
+    }
+}
+
+// The sound data of a file, that very part of it; of a refused file, an empty part.
+pub fn sound_of(file: &[u8]) -> &[u8]
+    ensures { λ r. ⌜ now r ≡ soundIn (now (file .entry)) ⌝ }
+{
+    let walked = riff::chunks(file);
+    let Walked::Whole(places) = walked else {
+        return &file[..0];
+    };
+    let answer = read_chunks(file, places);
+    let verdict = answer.verdict;
+    let Verdict::Accepted = verdict else {
+        return &file[..0];
+    };
+    let spot = places.sound;
+    riff::part(file, spot, &file[..0])
+}

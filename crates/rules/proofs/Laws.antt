@@ -1,0 +1,92 @@
+-- The verdict on a file's chunks, case by case in the order of the code's tests. Assumes nothing.
+use mathlib.Core.Path.{_≡_, sym, ap, _∙_}
+use mathlib.Core.Bool.{Bool, true, false, not}
+use mathlib.Core.List.{List}
+use Prim.Native.Nat.{ℕ}
+use borrow.Author.Tests.{not-true, not-false}
+use Rattle.units.specs.declared.BytePlace.{BytePlace}
+use Rattle.units.specs.declared.Frames.{Frames}
+use Rattle.units.specs.declared.Refusal.{Refusal}
+use Rattle.units.specs.declared.Refusal.the-variants.{FormatWrong, NotWholeFrames, FactWrong, CuesWrong, PlaylistWrong}
+use Rattle.units.specs.declared.Verdict.{Verdict}
+use Rattle.units.specs.declared.Verdict.the-variants.{Accepted, Refused}
+use Rattle.formats.specs.declared.Format.{Format}
+use Rattle.formats.specs.Format.{formatOf}
+use Rattle.formats.specs.Frames.{wholeBlocks, framesOf}
+use Rattle.tables.specs.declared.Cues.{Cues}
+use Rattle.tables.specs.declared.Playlist.{Playlist}
+use Rattle.tables.specs.Cues.{cuesOf}
+use Rattle.tables.specs.Plays.{playsOf}
+use Rattle.rules.specs.declared.Record.{Record}
+use Rattle.rules.specs.declared.Reading.{Reading}
+use Rattle.rules.specs.Rules.{fine, formatFine, factFine, cuesFine, playsFine, demand, verdictOf, recordOf, blank, turnedAway, answer, judged}
+
+-- ---- form and rule
+module _ (form rule : Bool) {x : Bool} (e : x ≡ form) where
+  pub fine-no : not x ≡ true → false ≡ fine form rule
+  unfolding fine
+  fine-no n = simp (sym e ∙ not-true x n)
+
+  pub fine-yes : {y : Bool} → not x ≡ false → y ≡ rule → y ≡ fine form rule
+  unfolding fine
+  fine-yes n f = simp (sym e ∙ not-false x n, f)
+
+pub ruleset fineness = (fine-no, fine-yes)
+
+-- ---- the record and a refused answer
+pub away-made : (r : Refusal) {m : Record} → m ≡ blank → record { verdict = Refused r; made = m } ≡ turnedAway r
+away-made r e = ap (λ (m : Record). record { verdict = Refused r; made = m }) e
+
+pub record-made : (fmt : List ℕ) (n : BytePlace) (fact cue plst : List ℕ) {f : Format} {frames : Frames} {c : Cues} {p : Playlist}
+    → f ≡ formatOf fmt → frames ≡ framesOf f n fact → c ≡ cuesOf cue → p ≡ playsOf plst
+    → record { format = f; frames = frames; cues = c; playlist = p } ≡ recordOf fmt n fact cue plst
+unfolding recordOf
+record-made fmt n fact cue plst a b d e = simp (b, a, d, e)
+
+-- ---- the verdict, 9 to 13
+module _ (fmt : List ℕ) (n : BytePlace) (fact cue plst : List ℕ) (m : Record) {a : Bool} (e : a ≡ formatFine fmt (m .format)) where
+  pub judge-format : not a ≡ true → Refused FormatWrong ≡ verdictOf fmt n fact cue plst m
+  unfolding verdictOf
+  judge-format t = simp (sym e ∙ not-true a t)
+
+  module _ (t : not a ≡ false) {b : Bool} (f : b ≡ wholeBlocks (m .format) n) where
+    pub judge-blocks : not b ≡ true → Refused NotWholeFrames ≡ verdictOf fmt n fact cue plst m
+    unfolding verdictOf
+    judge-blocks u = simp (sym e ∙ not-false a t, sym f ∙ not-true b u)
+
+    module _ (u : not b ≡ false) {d : Bool} (g : d ≡ factFine fact (m .format) n (m .frames)) where
+      pub judge-fact : not d ≡ true → Refused FactWrong ≡ verdictOf fmt n fact cue plst m
+      unfolding verdictOf
+      judge-fact v = simp (sym e ∙ not-false a t, sym f ∙ not-false b u, sym g ∙ not-true d v)
+
+      module _ (v : not d ≡ false) {i : Bool} (h : i ≡ cuesFine cue (m .cues) (m .frames)) where
+        pub judge-cues : not i ≡ true → Refused CuesWrong ≡ verdictOf fmt n fact cue plst m
+        unfolding verdictOf
+        judge-cues w = simp (sym e ∙ not-false a t, sym f ∙ not-false b u, sym g ∙ not-false d v, sym h ∙ not-true i w)
+
+        module _ (w : not i ≡ false) {j : Bool} (k : j ≡ playsFine plst (m .playlist) (m .cues) (m .frames)) where
+          pub judge-plays : not j ≡ true → Refused PlaylistWrong ≡ verdictOf fmt n fact cue plst m
+          unfolding verdictOf
+          judge-plays x =
+              simp (sym e ∙ not-false a t, sym f ∙ not-false b u, sym g ∙ not-false d v, sym h ∙ not-false i w, sym k ∙ not-true j x)
+
+          pub judge-taken : not j ≡ false → Accepted ≡ verdictOf fmt n fact cue plst m
+          unfolding verdictOf
+          judge-taken x =
+              simp (sym e ∙ not-false a t, sym f ∙ not-false b u, sym g ∙ not-false d v, sym h ∙ not-false i w, sym k ∙ not-false j x)
+
+pub ruleset judging = (judge-format, judge-blocks, judge-fact, judge-cues, judge-plays, judge-taken)
+
+-- ---- the answer
+module _ (fmt : List ℕ) (n : BytePlace) (fact cue plst : List ℕ) {m : Record} (e : m ≡ recordOf fmt n fact cue plst) {v : Verdict} (f : v ≡ verdictOf fmt n fact cue plst m) where
+  judged-as : answer v m ≡ judged fmt n fact cue plst
+  unfolding judged
+  judged-as = simp (f, e)
+
+  pub answer-taken : v ≡ Accepted → record { verdict = v; made = m } ≡ judged fmt n fact cue plst
+  answer-taken g = simp g (ap (λ (u : Verdict). answer u m) (sym g) ∙ judged-as)
+
+  pub answer-refused : {r : Refusal} {x : Reading} → v ≡ Refused r → x ≡ turnedAway r → x ≡ judged fmt n fact cue plst
+  answer-refused g h = h ∙ ap (λ (u : Verdict). answer u m) (sym g) ∙ judged-as
+
+pub ruleset answering = (answer-taken, answer-refused)

@@ -1,0 +1,11 @@
+-- The form first, then the rule.
+use borrow.Author.Needs.{needs}
+use Rattle.rules.proofs.Laws.{fineness}
+use Rattle.rules.proofs.fact_fine.Statement.{statement}
+use Rattle.rules.proofs.fact_fine.Tie as tie
+
+pub fact-fine-spec : {M : Type 1} → statement M
+fact-fine-spec =
+    tie.close
+    (tie.spec (λ c κs. search (needs, fineness)) (λ c. search (needs, fineness)) (λ c κs. search (needs, fineness))
+    (λ c. search (needs, fineness)))

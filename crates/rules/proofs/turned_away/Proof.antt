@@ -1,0 +1,10 @@
+-- The record made is the blank one.
+use borrow.Author.Needs.{needs}
+use Rattle.rules.proofs.Laws.{away-made}
+use Rattle.rules.proofs.turned_away.Statement.{statement}
+use Rattle.rules.proofs.turned_away.Tie as tie
+
+pub turned-away-spec : {M : Type 1} → statement M
+turned-away-spec =
+    tie.close
+    (tie.spec (λ c κs. search (needs, away-made)) (λ c. search (needs, away-made)))

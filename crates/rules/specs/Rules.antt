@@ -1,0 +1,79 @@
+-- The record that a file's chunks make, and the verdict on them. Assumes nothing.
+use Prim.Native.Nat.{ℕ}
+use mathlib.Core.Bool.{Bool, true, false, _&&_}
+use mathlib.Core.List.{List}
+use lib.ListN.{replicate}
+use Rattle.units.specs.declared.BytePlace.{BytePlace}
+use Rattle.units.specs.declared.Frames.{Frames}
+use Rattle.units.specs.declared.Refusal.{Refusal}
+use Rattle.units.specs.declared.Refusal.the-variants.{FormatWrong, NotWholeFrames, FactWrong, CuesWrong, PlaylistWrong}
+use Rattle.units.specs.declared.Verdict.{Verdict}
+use Rattle.units.specs.declared.Verdict.the-variants.{Accepted, Refused}
+use Rattle.formats.specs.declared.Format.{Format}
+use Rattle.formats.specs.Format.{formatOf, formatForm, formatRule}
+use Rattle.formats.specs.Frames.{wholeBlocks, framesOf, factForm, framesRule}
+use Rattle.tables.specs.declared.Cues.{Cues}
+use Rattle.tables.specs.declared.Playlist.{Playlist}
+use Rattle.tables.specs.Cues.{noCue, cuesOf, cuesForm, cuesRule}
+use Rattle.tables.specs.Plays.{noPlay, playsOf, playsForm, playsRule}
+use Rattle.rules.specs.declared.Record.{Record}
+use Rattle.rules.specs.declared.Reading.{Reading}
+
+-- what the chunks say: the bytes of `fmt `, the length of the sound data, the bytes of `fact`, `cue ` and `plst`
+unfoldable pub recordOf : List ℕ → BytePlace → List ℕ → List ℕ → List ℕ → Record
+recordOf fmt n fact cue plst =
+    record { format = formatOf fmt; frames = framesOf (formatOf fmt) n fact; cues = cuesOf cue; playlist = playsOf plst }
+
+-- a chunk has its form, and what it says keeps its rule
+unfoldable pub fine : Bool → Bool → Bool
+fine form rule = form && rule
+
+abbrev pub formatFine : List ℕ → Format → Bool
+formatFine fmt f = fine (formatForm fmt) (formatRule f)
+
+abbrev pub factFine : List ℕ → Format → BytePlace → Frames → Bool
+factFine fact f n frames = fine (factForm fact) (framesRule f n frames)
+
+abbrev pub cuesFine : List ℕ → Cues → Frames → Bool
+cuesFine cue c frames = fine (cuesForm cue) (cuesRule c frames)
+
+abbrev pub playsFine : List ℕ → Playlist → Cues → Frames → Bool
+playsFine plst p c frames = fine (playsForm plst) (playsRule p c frames)
+
+-- a demand that is met, or the refusal
+abbrev pub demand : Bool → Refusal → Verdict → Verdict
+demand true r v = v
+demand false r v = Refused r
+
+-- 9 to 13 by number
+unfoldable pub verdictOf : List ℕ → BytePlace → List ℕ → List ℕ → List ℕ → Record → Verdict
+verdictOf fmt n fact cue plst m =
+    demand (formatFine fmt (m .format)) FormatWrong
+    (demand (wholeBlocks (m .format) n) NotWholeFrames
+    (demand (factFine fact (m .format) n (m .frames)) FactWrong
+    (demand (cuesFine cue (m .cues) (m .frames)) CuesWrong
+    (demand (playsFine plst (m .playlist) (m .cues) (m .frames)) PlaylistWrong
+    Accepted))))
+
+-- the record that is all zero
+abbrev pub blank : Record
+blank =
+    record {
+      format = record { tag = 0; channels = 0; rate = 0; bits = 0; align = 0; samples = 0 };
+      frames = record { 0 = 0 };
+      cues = record { count = 0; list = replicate 64 noCue };
+      playlist = record { count = 0; list = replicate 64 noPlay };
+    }
+
+-- a refused file: its refusal, and no record
+abbrev pub turnedAway : Refusal → Reading
+turnedAway r = record { verdict = Refused r; made = blank }
+
+-- a record that is taken, or the refusal
+abbrev pub answer : Verdict → Record → Reading
+answer Accepted m = record { verdict = Accepted; made = m }
+answer (Refused r) m = turnedAway r
+
+unfoldable pub judged : List ℕ → BytePlace → List ℕ → List ℕ → List ℕ → Reading
+judged fmt n fact cue plst =
+    answer (verdictOf fmt n fact cue plst (recordOf fmt n fact cue plst)) (recordOf fmt n fact cue plst)

@@ -1,0 +1,193 @@
+// The record of a WAVE file, and the verdict on its chunks: the refusals 9 to 13, in their order.
+//
+// Everything here goes by the bytes of the chunks, wherever they stood in a file.
+use formats::Format;
+use tables::Cue;
+use tables::Cues;
+use tables::Play;
+use tables::Playlist;
+use units::BytePlace;
+use units::Donation;
+use units::Frames;
+use units::Refusal;
+use units::Verdict;
+ghost use mathlib.Core.Path.{_≡_};
+ghost use Prim.Native.Nat.{_<_};
+ghost use Rattle.rules.specs.Rules.{formatFine, factFine, cuesFine, playsFine, verdictOf, blank, turnedAway, recordOf, judged};
+
+// What a WAVE file says besides its sound.
+pub struct Record {
+    pub format: Format,
+    pub frames: Frames,
+    pub cues: Cues,
+    pub playlist: Playlist,
+}
+
+// What reading a file answers; where it is refused, the record is all zero.
+pub struct Reading {
+    pub verdict: Verdict,
+    pub made: Record,
+}
+
+// The record that is all zero.
+fn blank_record() -> Record
+    ensures { λ r. ⌜ r ≡ blank ⌝ }
+{
+    let format = Format {
+        tag: 0,
+        channels: 0,
+        rate: 0,
+        bits: 0,
+        align: 0,
+        samples: 0,
+    };
+    let cue = Cue {
+        name: Donation(0),
+        position: Frames(0),
+        place: Frames(0),
+    };
+    let play = Play {
+        name: Donation(0),
+        length: Frames(0),
+        times: 0,
+    };
+    let cues = Cues {
+        count: 0,
+        list: [cue; 64],
+    };
+    let playlist = Playlist {
+        count: 0,
+        list: [play; 64],
+    };
+    Record {
+        format: format,
+        frames: Frames(0),
+        cues: cues,
+        playlist: playlist,
+    }
+}
+
+// The answer to a file that is refused.
+pub fn turned_away(refusal: Refusal) -> Reading
+    ensures { λ r. ⌜ r ≡ turnedAway refusal ⌝ }
+{
+    Reading {
+        verdict: Verdict::Refused(refusal),
+        made: blank_record(),
+    }
+}
+
+// Whether a `fmt ` has its form and keeps its rule.
+fn format_fine(bytes: &[u8], format: Format) -> bool
+    ensures { λ r. ⌜ r ≡ formatFine (now (bytes .entry)) format ⌝ }
+{
+    let form = formats::format_form(bytes);
+    if !form {
+        return false;
+    }
+    formats::format_rule(format)
+}
+
+// Whether a `fact` has its form, and the frames keep their rule.
+fn fact_fine(fact: &[u8], format: Format, sound: BytePlace, frames: Frames) -> bool
+    ensures { λ r. ⌜ r ≡ factFine (now (fact .entry)) format sound frames ⌝ }
+{
+    let form = formats::fact_form(fact);
+    if !form {
+        return false;
+    }
+    formats::frames_rule(format, sound, frames)
+}
+
+// Whether a `cue ` has its form and keeps its rule.
+fn cues_fine(bytes: &[u8], cues: Cues, frames: Frames) -> bool
+    ensures { λ r. ⌜ r ≡ cuesFine (now (bytes .entry)) cues frames ⌝ }
+{
+    let form = tables::cues_form(bytes);
+    if !form {
+        return false;
+    }
+    tables::cues_rule(cues, frames)
+}
+
+// Whether a `plst` has its form and keeps its rule.
+fn plays_fine(bytes: &[u8], playlist: Playlist, cues: Cues, frames: Frames) -> bool
+    ensures { λ r. ⌜ r ≡ playsFine (now (bytes .entry)) playlist cues frames ⌝ }
+{
+    let form = tables::plays_form(bytes);
+    if !form {
+        return false;
+    }
+    tables::plays_rule(playlist, cues, frames)
+}
+
+// The verdict on the chunks of a file, whose record they make.
+fn verdict_of(
+    fmt: &[u8],
+    sound: BytePlace,
+    fact: &[u8],
+    cue: &[u8],
+    plst: &[u8],
+    made: Record,
+) -> Verdict
+    ensures { λ r. ⌜ r ≡ verdictOf (now (fmt .entry)) sound (now (fact .entry)) (now (cue .entry)) (now (plst .entry)) made ⌝ }
+{
+    let format = made.format;
+    let frames = made.frames;
+    let cues = made.cues;
+    let playlist = made.playlist;
+    let format_kept = format_fine(fmt, format);
+    if !format_kept {
+        return Verdict::Refused(Refusal::FormatWrong);
+    }
+    let whole = formats::whole_blocks(format, sound);
+    if !whole {
+        return Verdict::Refused(Refusal::NotWholeFrames);
+    }
+    let fact_kept = fact_fine(fact, format, sound, frames);
+    if !fact_kept {
+        return Verdict::Refused(Refusal::FactWrong);
+    }
+    let cues_kept = cues_fine(cue, cues, frames);
+    if !cues_kept {
+        return Verdict::Refused(Refusal::CuesWrong);
+    }
+    let plays_kept = plays_fine(plst, playlist, cues, frames);
+    if !plays_kept {
+        return Verdict::Refused(Refusal::PlaylistWrong);
+    }
+    Verdict::Accepted
+}
+
+// What the chunks of a file say.
+fn record_of(fmt: &[u8], sound: BytePlace, fact: &[u8], cue: &[u8], plst: &[u8]) -> Record
+    requires { ⌜ sound .0 < 4294967296 ⌝ }
+    ensures { λ r. ⌜ r ≡ recordOf (now (fmt .entry)) sound (now (fact .entry)) (now (cue .entry)) (now (plst .entry)) ⌝ }
+{
+    let format = formats::format_of(fmt);
+    let frames = formats::frames_of(format, sound, fact);
+    let cues = tables::cues_of(cue);
+    let playlist = tables::plays_of(plst);
+    Record {
+        format: format,
+        frames: frames,
+        cues: cues,
+        playlist: playlist,
+    }
+}
+
+// The verdict on the chunks of a file, and what they say where it is taken.
+pub fn judge(fmt: &[u8], sound: BytePlace, fact: &[u8], cue: &[u8], plst: &[u8]) -> Reading
+    requires { ⌜ sound .0 < 4294967296 ⌝ }
+    ensures { λ r. ⌜ r ≡ judged (now (fmt .entry)) sound (now (fact .entry)) (now (cue .entry)) (now (plst .entry)) ⌝ }
+{
+    let made = record_of(fmt, sound, fact, cue, plst);
+    let verdict = verdict_of(fmt, sound, fact, cue, plst, made);
+    match verdict {
+        Verdict::Accepted => Reading {
+            verdict: verdict,
+            made: made,
+        },
+        Verdict::Refused(refusal) => turned_away(refusal),
+    }
+}

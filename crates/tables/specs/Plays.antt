@@ -1,0 +1,58 @@
+-- The chunk `plst`: what it says, its form, and the rule on what it says. Assumes nothing.
+use Prim.Native.Nat.{ℕ, zero, suc, _+_, _*_}
+use mathlib.Core.Bool.{Bool, _&&_}
+use mathlib.Core.List.{List}
+use lib.Dec.{leb}
+use lib.ListN.{getD, set, replicate}
+use Rattle.little.specs.Numbers.{numberAt}
+use Rattle.lists.specs.Among.{indexIn, has}
+use Rattle.lists.specs.Every.{every}
+use Rattle.units.specs.declared.Frames.{Frames}
+use Rattle.tables.specs.declared.Cues.{Cues}
+use Rattle.tables.specs.declared.Play.{Play}
+use Rattle.tables.specs.declared.Playlist.{Playlist}
+use Rattle.tables.specs.Tables.{countIn, held, tableForm}
+use Rattle.tables.specs.Cues.{namesIn, placesIn}
+
+-- ---- what it says
+
+abbrev pub noPlay : Play
+noPlay = record { name = record { 0 = 0 }; length = record { 0 = 0 }; times = 0 }
+
+-- an entry: name, length, times
+unfoldable pub playAt : List ℕ → ℕ → Play
+playAt s at =
+    record {
+      name = record { 0 = numberAt 4 s at };
+      length = record { 0 = numberAt 4 s (at + 4) };
+      times = numberAt 4 s (at + 8);
+    }
+
+-- room for 64 entries, of which the first n are those of s, 12 bytes each
+unfoldable pub playsIn : List ℕ → ℕ → List Play
+playsIn s zero = replicate 64 noPlay
+playsIn s (suc n) = set (playsIn s n) n (playAt s (4 + 12 * n))
+
+unfoldable pub playsOf : List ℕ → Playlist
+playsOf s = record { count = countIn s; list = playsIn s (held (countIn s)) }
+
+-- ---- its form
+
+unfoldable pub playsForm : List ℕ → Bool
+playsForm s = tableForm 12 s
+
+-- ---- the rule on what it says
+
+-- name in the cue table, length at least 1, offset + length at most F, times at least 1; names and places are the cues'
+unfoldable pub playable : List ℕ → List ℕ → Frames → Play → Bool
+playable names places f p =
+    has (p .name .0) names && leb 1 (p .length .0)
+    && leb (getD places (indexIn (p .name .0) names) 0 + p .length .0) (f .0)
+    && leb 1 (p .times)
+
+unfoldable pub allPlayable : List ℕ → List ℕ → Frames → List Play → ℕ → Bool
+allPlayable names places f list n = every (λ i. playable names places f (getD list i noPlay)) 0 n
+
+-- at most 64 entries, each playable
+unfoldable pub playsRule : Playlist → Cues → Frames → Bool
+playsRule p c f = leb (p .count) 64 && allPlayable (namesIn c) (placesIn c) f (p .list) (p .count)

@@ -1,0 +1,304 @@
+// What the chunks `cue ` and `plst` say, and the rules that they must keep.
+//
+// What a chunk says is a total value of its bytes. What it must keep is split in two: its form, of
+// the bytes alone, and its rule, of the value; a writer needs the rule and not the form.
+use codes::Code;
+use units::Donation;
+use units::Frames;
+ghost use mathlib.Core.Path.{_≡_};
+ghost use mathlib.Core.List.{map};
+ghost use Prim.Native.Nat.{_+_, _*_, _≤_};
+ghost use lib.ListN.{length};
+ghost use Rattle.tables.specs.Cues.{cueAt, plainCue, cuesIn, cuesOf, cuesForm, nameOf, placeOf, cuesRule};
+ghost use Rattle.tables.specs.Plays.{playAt, playsIn, playsOf, playsForm, playable, allPlayable, playsRule};
+ghost use Rattle.tables.specs.Tables.{held};
+
+// The most entries that a table may have.
+pub const MOST: u32 = 64;
+
+// A cue point: a song's number, its position in the order of playing, and its place in the sound.
+pub struct Cue {
+    pub name: Donation,
+    pub position: Frames,
+    pub place: Frames,
+}
+
+// A cue table; past the count it is zero.
+pub struct Cues {
+    pub count: u32,
+    pub list: [Cue; 64],
+}
+
+// A playlist entry: a cue's name, how many frames to play from there, and how often.
+pub struct Play {
+    pub name: Donation,
+    pub length: Frames,
+    pub times: u32,
+}
+
+// A playlist; past the count it is zero.
+pub struct Playlist {
+    pub count: u32,
+    pub list: [Play; 64],
+}
+
+// The entries of a table that are read: no more than there is room for.
+fn held_of(count: u32) -> usize
+    ensures { λ r. ⌜ (r ≡ held count) × (r ≤ 64) ⌝ }
+{
+    if count <= MOST {
+        return count as usize;
+    }
+    64
+}
+
+// ---- cues
+
+// The cue point at a place.
+fn cue_at(bytes: &[u8], at: usize) -> Cue
+    requires { ⌜ at ≤ 4 + 24 * 64 ⌝ }
+    ensures { λ r. ⌜ r ≡ cueAt (now (bytes .entry)) at ⌝ }
+{
+    let name = little::u32_or_zero(bytes, at);
+    let position = little::u32_or_zero(bytes, at + 4);
+    let place = little::u32_or_zero(bytes, at + 20);
+    Cue {
+        name: Donation(name),
+        position: Frames(position),
+        place: Frames(place),
+    }
+}
+
+// The first n cue points, and zero past them.
+fn cues_in(bytes: &[u8], n: usize) -> [Cue; 64]
+    requires { ⌜ n ≤ 64 ⌝ }
+    ensures { λ r. ⌜ r ≡ cuesIn (now (bytes .entry)) n ⌝ }
+{
+    let none = Cue {
+        name: Donation(0),
+        position: Frames(0),
+        place: Frames(0),
+    };
+    let mut list = [none; 64];
+    let mut i = 0;
+    while i < n {
+        list[i] = cue_at(bytes, 4 + 24 * i);
+        i += 1;
+    }
+    list
+}
+
+// What a `cue ` says.
+pub fn cues_of(bytes: &[u8]) -> Cues
+    ensures { λ r. ⌜ r ≡ cuesOf (now (bytes .entry)) ⌝ }
+{
+    let count = little::u32_or_zero(bytes, 0);
+    let n = held_of(count);
+    let list = cues_in(bytes, n);
+    Cues {
+        count: count,
+        list: list,
+    }
+}
+
+// Whether a cue point counts from the start of the data.
+fn plain_cue(bytes: &[u8], at: usize) -> bool
+    requires { ⌜ at ≤ 4 + 24 * 64 ⌝ }
+    ensures { λ r. ⌜ r ≡ plainCue (now (bytes .entry)) at ⌝ }
+{
+    let in_data = codes::is_at(bytes, at + 8, Code::Data);
+    if !in_data {
+        return false;
+    }
+    let chunk_start = little::u32_or_zero(bytes, at + 12);
+    if chunk_start != 0 {
+        return false;
+    }
+    let block_start = little::u32_or_zero(bytes, at + 16);
+    block_start == 0
+}
+
+// Whether a `cue ` has at most 64 cue points, nothing more, and each counts from the start of the data.
+pub fn cues_form(bytes: &[u8]) -> bool
+    ensures { λ r. ⌜ r ≡ cuesForm (now (bytes .entry)) ⌝ }
+{
+    let count = little::u32_or_zero(bytes, 0);
+    if MOST < count {
+        return false;
+    }
+    let n = count as usize;
+    if bytes.len() != 4 + 24 * n {
+        return false;
+    }
+    let mut i = 0;
+    while i < n {
+        let plain = plain_cue(bytes, 4 + 24 * i);
+        if !plain {
+            return false;
+        }
+        i += 1;
+    }
+    true
+}
+
+// The names of cues, as plain numbers.
+pub fn names_of(list: [Cue; 64]) -> [u32; 64]
+    ensures { λ r. ⌜ r ≡ map nameOf list ⌝ }
+{
+    let mut names = [0u32; 64];
+    let mut i = 0;
+    while i < 64 {
+        let cue = list[i];
+        names[i] = cue.name.0;
+        i += 1;
+    }
+    names
+}
+
+// The places of cues, as plain numbers.
+pub fn places_of(list: [Cue; 64]) -> [u32; 64]
+    ensures { λ r. ⌜ r ≡ map placeOf list ⌝ }
+{
+    let mut places = [0u32; 64];
+    let mut i = 0;
+    while i < 64 {
+        let cue = list[i];
+        places[i] = cue.place.0;
+        i += 1;
+    }
+    places
+}
+
+// Whether the names of the cues differ, and their places are in the sound.
+pub fn cues_rule(cues: Cues, frames: Frames) -> bool
+    ensures { λ r. ⌜ r ≡ cuesRule cues frames ⌝ }
+{
+    if MOST < cues.count {
+        return false;
+    }
+    let n = held_of(cues.count);
+    let list = cues.list;
+    let names = names_of(list);
+    let differ = lists::all_differ(&names[..n]);
+    if !differ {
+        return false;
+    }
+    let places = places_of(list);
+    lists::all_below(&places[..n], frames.0)
+}
+
+// ---- playlist
+
+// The playlist entry at a place.
+fn play_at(bytes: &[u8], at: usize) -> Play
+    requires { ⌜ at ≤ 4 + 12 * 64 ⌝ }
+    ensures { λ r. ⌜ r ≡ playAt (now (bytes .entry)) at ⌝ }
+{
+    let name = little::u32_or_zero(bytes, at);
+    let length = little::u32_or_zero(bytes, at + 4);
+    let times = little::u32_or_zero(bytes, at + 8);
+    Play {
+        name: Donation(name),
+        length: Frames(length),
+        times: times,
+    }
+}
+
+// The first n playlist entries, and zero past them.
+fn plays_in(bytes: &[u8], n: usize) -> [Play; 64]
+    requires { ⌜ n ≤ 64 ⌝ }
+    ensures { λ r. ⌜ r ≡ playsIn (now (bytes .entry)) n ⌝ }
+{
+    let none = Play {
+        name: Donation(0),
+        length: Frames(0),
+        times: 0,
+    };
+    let mut list = [none; 64];
+    let mut i = 0;
+    while i < n {
+        list[i] = play_at(bytes, 4 + 12 * i);
+        i += 1;
+    }
+    list
+}
+
+// What a `plst` says.
+pub fn plays_of(bytes: &[u8]) -> Playlist
+    ensures { λ r. ⌜ r ≡ playsOf (now (bytes .entry)) ⌝ }
+{
+    let count = little::u32_or_zero(bytes, 0);
+    let n = held_of(count);
+    let list = plays_in(bytes, n);
+    Playlist {
+        count: count,
+        list: list,
+    }
+}
+
+// Whether a `plst` has at most 64 entries and nothing more.
+pub fn plays_form(bytes: &[u8]) -> bool
+    ensures { λ r. ⌜ r ≡ playsForm (now (bytes .entry)) ⌝ }
+{
+    let count = little::u32_or_zero(bytes, 0);
+    if MOST < count {
+        return false;
+    }
+    let n = count as usize;
+    bytes.len() == 4 + 12 * n
+}
+
+// Whether an entry names a cue and plays at least once some frames that are there. names and places
+// are those of the cues.
+fn playable_entry(play: Play, names: &[u32], places: &[u32], frames: Frames) -> bool
+    requires { ⌜ length (now names) ≡ length (now places) ⌝ }
+    ensures { λ r. ⌜ r ≡ playable (now (names .entry)) (now (places .entry)) frames play ⌝ }
+{
+    let name = play.name.0;
+    let found = lists::find(names, name);
+    if names.len() <= found {
+        return false;
+    }
+    let length = play.length.0 as u64;
+    if length < 1 {
+        return false;
+    }
+    let place = places[found] as u64;
+    if (frames.0 as u64) < place + length {
+        return false;
+    }
+    1 <= play.times
+}
+
+// Whether the first n entries can be played.
+fn all_playable(list: [Play; 64], n: usize, names: &[u32], places: &[u32], frames: Frames) -> bool
+    requires { ⌜ (n ≤ 64) × (length (now names) ≡ length (now places)) ⌝ }
+    ensures { λ r. ⌜ r ≡ allPlayable (now (names .entry)) (now (places .entry)) frames list n ⌝ }
+{
+    let mut i = 0;
+    while i < n {
+        let play = list[i];
+        let fine = playable_entry(play, names, places, frames);
+        if !fine {
+            return false;
+        }
+        i += 1;
+    }
+    true
+}
+
+// Whether a playlist can be played with some cues.
+pub fn plays_rule(playlist: Playlist, cues: Cues, frames: Frames) -> bool
+    ensures { λ r. ⌜ r ≡ playsRule playlist cues frames ⌝ }
+{
+    if MOST < playlist.count {
+        return false;
+    }
+    let s = playlist.count as usize;
+    let c = held_of(cues.count);
+    let cue_list = cues.list;
+    let names = names_of(cue_list);
+    let places = places_of(cue_list);
+    let list = playlist.list;
+    all_playable(list, s, &names[..c], &places[..c], frames)
+}
