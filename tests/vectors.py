@@ -1,7 +1,7 @@
 #!/usr/bin/env python3
-"""What the vector programs read and must print, worked out from document 01 and Python's struct.
+"""What the programs read and must print in a test, worked out from document 01 and Python's struct.
 
-    tests/vectors.py            compares with crates/NAME/stdin and crates/NAME/stdout
+    tests/vectors.py            compares with crates/NAME/stdin, args and stdout
     tests/vectors.py --write    writes those files
 
 Nothing here is taken from a run of the programs.
@@ -9,6 +9,9 @@ Nothing here is taken from a run of the programs.
 import pathlib
 import struct
 import sys
+
+import other_programs
+import wave_files
 
 CRATES = pathlib.Path(__file__).resolve().parent.parent / 'crates'
 
@@ -92,14 +95,34 @@ def samples():
     return data, '\n'.join(lines) + '\n'
 
 
+def reader():
+    """The files of tests/wave_files.py, one after the other."""
+    data, lines = b'', []
+    for label, file, expected in wave_files.all_files():
+        data += bytes([len(label)]) + label.encode() + struct.pack('<I', len(file)) + file
+        lines += [label] + expected
+    return data, '\n'.join(lines) + '\n'
+
+
+def programs():
+    """For each program its standard input, its arguments and what it must print."""
+    made = {f'{make.__name__}_vectors': (*make(), None) for make in (units, little, samples, reader)}
+    made['wave_list'] = wave_files.example(), '\n'.join(wave_files.EXAMPLE) + '\n', None
+    others = list(other_programs.expected())
+    made['other_programs'] = b'', ''.join(f'{name}\n{text}' for name, text in others), [name for name, _ in others]
+    return made
+
+
 def main(words):
     """Compares or writes; the exit status is 1 where something differs."""
     if words not in ([], ['--write']):
         sys.exit(__doc__)
-    made = {f'{make.__name__}_vectors': make() for make in (units, little, samples)}
-    wrong = [f'{p.name}: nothing here works out its vectors' for p in CRATES.glob('*_vectors') if p.name not in made]
-    for name, (data, expected) in made.items():
-        files = {'stdin': data or None, 'stdout': expected.encode()}
+    made = programs()
+    programs_here = {path.parent.parent.name for path in CRATES.glob('*/src/main.rt')}
+    wrong = [f'{name}: nothing here works out what it must print' for name in sorted(programs_here - made.keys())]
+    for name, (data, expected, arguments) in made.items():
+        args = None if arguments is None else ''.join(f'{word}\n' for word in arguments).encode()
+        files = {'stdin': data or None, 'args': args, 'stdout': expected.encode()}
         for path, content in ((CRATES / name / file, content) for file, content in files.items()):
             if words and content is not None:
                 path.write_bytes(content)

@@ -1,0 +1,86 @@
+// The listing of a WAVE file on standard output: its format and frames, then a line for each cue and
+// a line for each playlist entry; or the number of the refusal.
+use rules::Record;
+use tables::Cue;
+use tables::Cues;
+use tables::Play;
+use tables::Playlist;
+use units::Refusal;
+use units::Verdict;
+
+// A name and a number after it.
+fn field(name: &[u8], value: u64) {
+    show::word(name);
+    show::number(value);
+}
+
+// A refusal, by its number.
+pub fn refused(refusal: Refusal) {
+    field(b"refused ", units::number(refusal) as u64);
+    show::line();
+}
+
+// A cue: its name and its place.
+fn cue_line(cue: Cue) {
+    field(b"cue ", cue.name.0 as u64);
+    field(b" at ", cue.place.0 as u64);
+    show::line();
+}
+
+// A line for each cue.
+fn cues(table: Cues) {
+    let list = table.list;
+    let count = table.count as usize;
+    for i in 0..64 {
+        if i < count {
+            let cue = list[i];
+            cue_line(cue);
+        }
+    }
+}
+
+// A playlist entry: its name, how many frames, and how often.
+fn play_line(play: Play) {
+    field(b"play ", play.name.0 as u64);
+    field(b" length ", play.length.0 as u64);
+    field(b" times ", play.times as u64);
+    show::line();
+}
+
+// A line for each playlist entry.
+fn plays(playlist: Playlist) {
+    let list = playlist.list;
+    let count = playlist.count as usize;
+    for i in 0..64 {
+        if i < count {
+            let play = list[i];
+            play_line(play);
+        }
+    }
+}
+
+// What a file says, line by line.
+fn accepted(made: Record) {
+    let format = made.format;
+    field(b"wave tag ", format.tag as u64);
+    field(b" channels ", format.channels as u64);
+    field(b" rate ", format.rate as u64);
+    field(b" bits ", format.bits as u64);
+    field(b" frames ", made.frames.0 as u64);
+    show::line();
+    let table = made.cues;
+    cues(table);
+    let playlist = made.playlist;
+    plays(playlist);
+}
+
+// The listing of a file.
+pub fn list(file: &[u8]) {
+    let reading = reader::read(file);
+    let verdict = reading.verdict;
+    let made = reading.made;
+    match verdict {
+        Verdict::Accepted => accepted(made),
+        Verdict::Refused(refusal) => refused(refusal),
+    }
+}
