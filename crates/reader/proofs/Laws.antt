@@ -72,6 +72,10 @@ part-fits s Missing h e = simp e (omega arith)
 pub ruleset parts = (read-judged, part-fits)
 
 -- ---- a file's reading and its sound
+pub silent : (c : Content) {r : Refusal} → readingOf c .verdict ≡ Refused r → [] ≡ soundOf c
+silent (refused r) h = refl
+silent (holds m v) h = let z : _≡_ {A = ℕ} 0 1 = cc in absurd (omega arith)
+
 module _ (s : List ℕ) {w : Walked} (e : w ≡ directoryOf s) where
   content-by : {v : Walked} → w ≡ v → contentOf s ≡ contentIn s v
   unfolding contentOf
@@ -90,10 +94,6 @@ module _ (s : List ℕ) {w : Walked} (e : w ≡ directoryOf s) where
     pub read-whole : x ≡ reading s
     unfolding reading
     read-whole = g ∙ sym (ap readingOf (content-by f))
-
-    silent : (c : Content) {r : Refusal} → readingOf c .verdict ≡ Refused r → [] ≡ soundOf c
-    silent (refused r) h = refl
-    silent (holds m v) h = let z : _≡_ {A = ℕ} 0 1 = cc in absurd (omega arith)
 
     pub sound-refused : {r : Refusal} → x .verdict ≡ Refused r → [] ≡ soundIn s
     unfolding soundIn

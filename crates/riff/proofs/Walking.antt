@@ -80,9 +80,9 @@ module _ (s : List ℕ) (at : ℕ) (d : Directory) where
   ends (suc n) h = simp (le-ltb at (length s) h)
 
 -- ---- in the words of the code
-pub walk-begins : (s : List ℕ) → Rest s 12 nothingYet
+pub walk-begins : (s : List ℕ) {d : Directory} → d ≡ nothingYet → Rest s 12 d
 unfolding walkOf stepsOf
-walk-begins s = record { turns = length s; enough = omega arith; same = refl }
+walk-begins s e = rw e (record { turns = length s; enough = omega arith; same = refl })
 
 module _ {s : List ℕ} {at : ℕ} {d : Directory} (w : Rest s at d) where
   pub walk-ends : length s ≤ at → Whole d ≡ walkOf s

@@ -77,13 +77,16 @@ spotOf d Plays = d .plays
 spotOf d Listing = Missing
 spotOf d Other = Missing
 
+abbrev pub directory : Spot → Spot → Spot → Spot → Spot → Directory
+directory format sound fact cues plays = record { format = format; sound = sound; fact = fact; cues = cues; plays = plays }
+
 -- the directory with one chunk more
 abbrev pub keep : Directory → Place → Kind → Directory
-keep d p Format = record { format = At p; sound = d .sound; fact = d .fact; cues = d .cues; plays = d .plays }
-keep d p Sound = record { format = d .format; sound = At p; fact = d .fact; cues = d .cues; plays = d .plays }
-keep d p Fact = record { format = d .format; sound = d .sound; fact = At p; cues = d .cues; plays = d .plays }
-keep d p Cues = record { format = d .format; sound = d .sound; fact = d .fact; cues = At p; plays = d .plays }
-keep d p Plays = record { format = d .format; sound = d .sound; fact = d .fact; cues = d .cues; plays = At p }
+keep d p Format = directory (At p) (d .sound) (d .fact) (d .cues) (d .plays)
+keep d p Sound = directory (d .format) (At p) (d .fact) (d .cues) (d .plays)
+keep d p Fact = directory (d .format) (d .sound) (At p) (d .cues) (d .plays)
+keep d p Cues = directory (d .format) (d .sound) (d .fact) (At p) (d .plays)
+keep d p Plays = directory (d .format) (d .sound) (d .fact) (d .cues) (At p)
 keep d p Listing = d
 keep d p Other = d
 

@@ -16,10 +16,10 @@ use Rattle.riff.specs.declared.Spot.the-variants.{At, Missing}
 use Rattle.riff.specs.declared.Directory.{Directory}
 use Rattle.riff.specs.declared.Walked.{Walked}
 use Rattle.riff.specs.declared.Walked.the-variants.{Whole, Stopped}
-use Rattle.riff.specs.Chunks.{headVerdict, chunkAt, keep}
+use Rattle.riff.specs.Chunks.{headVerdict, chunkAt, directory, keep}
 
 abbrev pub nothingYet : Directory
-nothingYet = record { format = Missing; sound = Missing; fact = Missing; cues = Missing; plays = Missing }
+nothingYet = directory Missing Missing Missing Missing Missing
 
 -- a step, and the steps after it; a refusal is the last
 abbrev pub andThen : (BytePlace → Directory → List Step) → Directory → Step → List Step

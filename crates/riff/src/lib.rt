@@ -8,7 +8,7 @@ use units::Refusal;
 use units::Verdict;
 ghost use mathlib.Core.Path.{_≡_};
 ghost use lib.ListN.{take, drop};
-ghost use Rattle.riff.specs.Chunks.{headVerdict, kindAt, placeAt, spotOf, isThere, early, startsAsWaves, waveList, chunkAt, keep};
+ghost use Rattle.riff.specs.Chunks.{headVerdict, kindAt, placeAt, spotOf, isThere, early, startsAsWaves, waveList, chunkAt, directory, keep};
 ghost use Rattle.riff.specs.Walk.{refusalOf, walkOf, directoryOf, partOf};
 
 // The longest file, in bytes.
@@ -228,6 +228,19 @@ pub fn chunk_at(file: &[u8], at: BytePlace, seen: Directory) -> Step
     Step::Chunk(place)
 }
 
+// The directory of five spots.
+fn listed(format: Spot, sound: Spot, fact: Spot, cues: Spot, plays: Spot) -> Directory
+    ensures { λ r. ⌜ r ≡ directory format sound fact cues plays ⌝ }
+{
+    Directory {
+        format: format,
+        sound: sound,
+        fact: fact,
+        cues: cues,
+        plays: plays,
+    }
+}
+
 // The directory with one chunk more.
 fn kept(seen: Directory, place: Place) -> Directory
     ensures { λ r. ⌜ r ≡ keep seen place (place .kind) ⌝ }
@@ -240,41 +253,11 @@ fn kept(seen: Directory, place: Place) -> Directory
     let plays = seen.plays;
     let here = Spot::At(place);
     match kind {
-        Kind::Format => Directory {
-            format: here,
-            sound: sound,
-            fact: fact,
-            cues: cues,
-            plays: plays,
-        },
-        Kind::Sound => Directory {
-            format: format,
-            sound: here,
-            fact: fact,
-            cues: cues,
-            plays: plays,
-        },
-        Kind::Fact => Directory {
-            format: format,
-            sound: sound,
-            fact: here,
-            cues: cues,
-            plays: plays,
-        },
-        Kind::Cues => Directory {
-            format: format,
-            sound: sound,
-            fact: fact,
-            cues: here,
-            plays: plays,
-        },
-        Kind::Plays => Directory {
-            format: format,
-            sound: sound,
-            fact: fact,
-            cues: cues,
-            plays: here,
-        },
+        Kind::Format => listed(here, sound, fact, cues, plays),
+        Kind::Sound => listed(format, here, fact, cues, plays),
+        Kind::Fact => listed(format, sound, here, cues, plays),
+        Kind::Cues => listed(format, sound, fact, here, plays),
+        Kind::Plays => listed(format, sound, fact, cues, here),
         Kind::Listing => seen,
         Kind::Other => seen,
     }
@@ -295,13 +278,8 @@ fn walk(file: &[u8]) -> Walked
     ensures { λ r. ⌜ r ≡ walkOf (now (file .entry)) ⌝ }
 {
     let mut at: usize = 12;
-    let mut seen = Directory {
-        format: Spot::Missing,
-        sound: Spot::Missing,
-        fact: Spot::Missing,
-        cues: Spot::Missing,
-        plays: Spot::Missing,
-    };
+    let none = Spot::Missing;
+    let mut seen = listed(none, none, none, none, none);
     while at < file.len() {
         let step = chunk_at(file, BytePlace(at), seen);
         let Step::Chunk(place) = step else {

@@ -1,11 +1,14 @@
 -- Laws of reading a table and of taking one number of each entry, in the words of the code. Assumes nothing.
 use mathlib.Core.Path.{_≡_, refl, sym, ap, _∙_}
+use mathlib.Core.Bool.{Bool, true, false, cond}
 use mathlib.Core.List.{List, map, _++_, append-nil}
-use Prim.Native.Nat.{ℕ, suc, _+_, _*_, _≤_, _<_}
+use Prim.Native.Nat.{ℕ, zero, suc, _+_, _*_, _≤_, _<_}
 use native.Mathlib.Numerals.{add-one}
 use native.Mathlib.Omega.{arith}
 use lib.ListN.{length, getD, set, replicate, length-map, List·getD-map, drop-of-length-le}
-use borrow.Author.Tests.{le-leb, lt-leb}
+use lib.Dec.{leb}
+use lib.Seq.{getD-set-other}
+use borrow.Author.Tests.{le-leb, lt-leb, leb-false}
 use Rattle.little.specs.Numbers.{numberAt}
 use Rattle.little.specs.Writing.{front}
 use Rattle.little.proofs.Filling.{Written, front-begins, front-next, front-ends}
@@ -110,3 +113,39 @@ module _ {A : Type 0} {f : A → ℕ} {z : A} {list : List A} where
         ∙ append-nil (map f list)
 
 pub ruleset mapping = (map-begins, map-next, map-ends)
+
+-- ---- past its count a table reads as zero: nothing was put there
+module _ {A : Type 0} (z : A) where
+  pub all-zero : (n i : ℕ) → getD (replicate n z) i z ≡ z
+  all-zero zero i = refl
+  all-zero (suc n) zero = refl
+  all-zero (suc n) (suc i) = all-zero n i
+
+  rest-zero : (many : ℕ → List A) (entry : ℕ → A) → ((k : ℕ) → many (suc k) ≡ set (many k) k (entry k)) → many 0 ≡ replicate 64 z
+      → (n i : ℕ) → n ≤ i → getD (many n) i z ≡ z
+  rest-zero many entry more begin zero i h = ap (λ (l : List A). getD l i z) begin ∙ all-zero 64 i
+  rest-zero many entry more begin (suc n) i h =
+      ap (λ (l : List A). getD l i z) (more n)
+      ∙ getD-set-other (many n) n i (entry n) z (λ (e : i ≡ n). omega arith)
+      ∙ rest-zero many entry more begin n i (omega arith)
+
+held-within : (n : ℕ) → held n ≤ n
+unfolding held
+held-within n = by (leb n 64) refl
+  where
+    by : (b : Bool) → leb n 64 ≡ b → cond b n 64 ≤ n
+    by true e = omega arith
+    by false e = let h = leb-false n 64 e in omega arith
+
+module _ (s : List ℕ) (i : ℕ) where
+  pub cues-zero : cuesOf s .count ≤ i → getD (cuesOf s .list) i noCue ≡ noCue
+  unfolding cuesOf cuesIn
+  cues-zero h =
+      let g = held-within (countIn s) in
+      rest-zero noCue (cuesIn s) (λ k. cueAt s (4 + 24 * k)) (λ k. refl) refl (held (countIn s)) i (omega arith)
+
+  pub plays-zero : playsOf s .count ≤ i → getD (playsOf s .list) i noPlay ≡ noPlay
+  unfolding playsOf playsIn
+  plays-zero h =
+      let g = held-within (countIn s) in
+      rest-zero noPlay (playsIn s) (λ k. playAt s (4 + 12 * k)) (λ k. refl) refl (held (countIn s)) i (omega arith)

@@ -1,0 +1,78 @@
+-- What reading promises besides its definition: each by the cases of what a file holds. Assumes nothing.
+use mathlib.Core.Path.{_≡_, refl, sym, ap, _∙_}
+use mathlib.Core.Bool.{Bool, true, false, cond, _&&_}
+use mathlib.Core.List.{List, []}
+use Prim.Native.Nat.{ℕ}
+use native.Mathlib.Omega.{arith}
+use Rattle.units.specs.declared.Refusal.{Refusal}
+use Rattle.units.specs.declared.Refusal.the-variants.{FormatOrDataMissing}
+use Rattle.units.specs.declared.Verdict.{Verdict}
+use Rattle.units.specs.declared.Verdict.the-variants.{Accepted, Refused}
+use Rattle.riff.specs.declared.Directory.{Directory}
+use Rattle.riff.specs.declared.Spot.{Spot}
+use Rattle.riff.specs.declared.Spot.the-variants.{At, Missing}
+use Rattle.riff.specs.declared.Walked.{Walked}
+use Rattle.riff.specs.declared.Walked.the-variants.{Whole, Stopped}
+use Rattle.riff.specs.Chunks.{isThere}
+use Rattle.riff.specs.Walk.{partOf, directoryOf}
+use Rattle.tables.specs.Cues.{noCue}
+use Rattle.tables.specs.Plays.{noPlay}
+use Rattle.tables.proofs.Entries.{all-zero, cues-zero, plays-zero}
+use Rattle.rules.specs.declared.Record.{Record}
+use Rattle.rules.specs.Rules.{recordOf, blank}
+use Rattle.reader.specs.Content.{Content, refused, holds, taken, soundPart, cuePart, playlistPart, recordAt, verdictAt, contentAt, contentIn, contentOf, readingOf, soundOf, reading, soundIn}
+use Rattle.reader.proofs.Laws.{silent}
+use Rattle.reader.specs.Demands.{Tied, Part, Empty, Refusing, ZeroPast}
+
+pub tied : (s : List ℕ) → Tied s
+unfolding reading soundIn
+tied s = by (contentOf s)
+  where
+    by : (c : Content) → taken (readingOf c .verdict) (readingOf c .made) (soundOf c) ≡ c
+    by (refused r) = refl
+    by (holds m w) = refl
+
+pub refusing : (s : List ℕ) → Refusing s
+unfolding reading soundIn
+refusing s r e = record { made = made (contentOf s) e; sound = sym (silent (contentOf s) e) }
+  where
+    made : (c : Content) → readingOf c .verdict ≡ Refused r → readingOf c .made ≡ blank
+    made (refused x) h = refl
+    made (holds m w) h = let z : _≡_ {A = ℕ} 0 1 = cc in absurd (omega arith)
+
+-- ---- a file holds nothing, or the record and the sound of its directory
+module _ (P : Content → Type 0) (none : (r : Refusal) → P (refused r)) where
+  either : (v : Verdict) (m : Record) (w : List ℕ) → P (holds m w) → P (taken v m w)
+  either Accepted m w p = p
+  either (Refused r) m w p = none r
+
+  demanded : (b : Bool) (c : Content) → P c → P (cond b c (refused FormatOrDataMissing))
+  demanded true c p = p
+  demanded false c p = none FormatOrDataMissing
+
+  in-content : (s : List ℕ) → ((d : Directory) → P (holds (recordAt s d) (soundPart s d))) → P (contentOf s)
+  unfolding contentOf contentAt
+  in-content s some = by (directoryOf s)
+    where
+      by : (w : Walked) → P (contentIn s w)
+      by (Whole d) =
+          demanded (isThere (d .format) && isThere (d .sound)) _
+          (either (verdictAt s d) (recordAt s d) (soundPart s d) (some d))
+      by (Stopped r) = none r
+
+pub sound-part : (s : List ℕ) → Part s (soundIn s)
+unfolding soundIn
+sound-part s =
+    in-content (λ c. Part s (soundOf c)) (λ r. record { from = 0; size = 0; same = refl }) s (λ d. by (d .sound))
+  where
+    by : (spot : Spot) → Part s (partOf s spot [])
+    by (At p) = record { from = p .start .0; size = p .size .0; same = refl }
+    by Missing = record { from = 0; size = 0; same = refl }
+
+pub zero-past : (s : List ℕ) → ZeroPast (reading s .made)
+unfolding reading recordOf
+zero-past s =
+    in-content (λ c. ZeroPast (readingOf c .made))
+    (λ r. record { cues = λ i h. all-zero noCue 64 i; plays = λ i h. all-zero noPlay 64 i })
+    s
+    (λ d. record { cues = λ i h. cues-zero (cuePart s d) i h; plays = λ i h. plays-zero (playlistPart s d) i h })

@@ -1,0 +1,69 @@
+#!/usr/bin/env python3
+"""Runs the programs, as `rt` has built them, on input that their stored test does not have.
+
+    tests/programs.py       after `rt check` or `rt ci`
+"""
+import os
+import pathlib
+import platform
+import shutil
+import subprocess
+import sys
+
+import wave_files
+
+ROOT = pathlib.Path(__file__).resolve().parent.parent
+KIT = pathlib.Path(os.environ.get('RATTLE_HOME') or pathlib.Path(shutil.which('rt')).resolve().parent.parent)
+
+
+def run(name, **options):
+    """What a program writes; on another processor than x86-64 the kit's emulator runs it."""
+    tools = KIT / 'on' / platform.machine() / 'toolchain'
+    emulator = tools / 'bin' / 'qemu-x86_64'
+    command = [tools / 'lib' / 'ld-linux-x86-64.so.2', '--library-path', tools / 'lib', ROOT / 'target' / 'bin' / name]
+    if emulator.exists():
+        command.insert(0, emulator)
+    return subprocess.run(command, stdout=subprocess.PIPE, check=True, **options).stdout.decode()
+
+
+def long_file(n):
+    """A file of n bytes, all sound but for its header."""
+    return wave_files.wave(wave_files.fmt(bits=8), wave_files.data(n - 44))
+
+
+def listings():
+    """Label, what wave_list was given, what it wrote and what it must write."""
+    full = '\n'.join(wave_files.pcm(65536 - 44, 8)) + '\n'
+    refused = 'refused 1\n'
+    yield '65,536 bytes', run('wave_list', input=long_file(65536)), full
+    yield '65,537 bytes', run('wave_list', input=long_file(65536) + b'\0'), refused
+    yield '65,538 bytes', run('wave_list', input=long_file(65538)), refused
+    yield '65,537 bytes that are no WAVE file', run('wave_list', input=bytes(65537)), refused
+    yield 'a megabyte', run('wave_list', input=long_file(1 << 20)), refused
+    yield 'no bytes', run('wave_list', input=b''), refused
+    yield 'the null device', run('wave_list', stdin=subprocess.DEVNULL), refused
+    folder = os.open(ROOT, os.O_RDONLY)
+    yield 'a folder', run('wave_list', stdin=folder), refused
+    os.close(folder)
+    yield 'a file by and by', in_pieces(wave_files.example()), '\n'.join(wave_files.EXAMPLE) + '\n'
+
+
+def in_pieces(file):
+    """What wave_list writes of a file that comes through a pipe in small pieces."""
+    half = len(file) // 2
+    script = f'head -c {half}; sleep 0.2; cat'
+    with subprocess.Popen(['sh', '-c', script], stdin=subprocess.PIPE, stdout=subprocess.PIPE) as slow:
+        slow.stdin.write(file)
+        slow.stdin.close()
+        return run('wave_list', stdin=slow.stdout)
+
+
+def main():
+    wrong = [(label, wrote) for label, wrote, expected in listings() if wrote != expected]
+    for label, wrote in wrong:
+        print(f'tests/programs.py: wave_list on {label} wrote {wrote!r}')
+    return 1 if wrong else 0
+
+
+if __name__ == '__main__':
+    sys.exit(main())
