@@ -1,12 +1,13 @@
 -- The chunk `fmt `: what it says, its form, and the rule on what it says. Assumes nothing.
 use Prim.Native.Nat.{ℕ, _+_, _-_, _*_, _/_, _%_}
-use mathlib.Core.Bool.{Bool, true, false, cond, _&&_, _||_}
+use mathlib.Core.Bool.{Bool, false, cond, _&&_, _||_}
 use mathlib.Core.List.{List, [], _∷_}
 use lib.Dec.{leb, eqb}
 use lib.IntN.{ℤ, pos, negℤ}
-use lib.ListN.{length}
+use lib.ListN.{length, getD}
 use Rattle.little.specs.Numbers.{numberAt}
 use Rattle.samples.specs.Sound.{bitsOf}
+use Rattle.lists.specs.Every.{every}
 use Rattle.formats.specs.declared.Format.{Format}
 
 -- ---- what it says
@@ -39,19 +40,24 @@ extended size extension s =
     leb size (length s) && leb extension (numberAt 2 s 16) && leb (18 + numberAt 2 s 16) (length s)
 
 -- the seven pairs
-abbrev pub pairs : List ℤ
+abbrev pub pairs : List (List ℤ)
 pairs =
-    pos 256 ∷ pos 0 ∷ pos 512 ∷ negℤ (pos 256) ∷ pos 0 ∷ pos 0 ∷ pos 192 ∷ pos 64 ∷ pos 240 ∷ pos 0 ∷ pos 460 ∷ negℤ (pos 208)
-    ∷ pos 392 ∷ negℤ (pos 232) ∷ []
+    (pos 256 ∷ pos 0 ∷ [])
+    ∷ (pos 512 ∷ negℤ (pos 256) ∷ [])
+    ∷ (pos 0 ∷ pos 0 ∷ [])
+    ∷ (pos 192 ∷ pos 64 ∷ [])
+    ∷ (pos 240 ∷ pos 0 ∷ [])
+    ∷ (pos 460 ∷ negℤ (pos 208) ∷ [])
+    ∷ (pos 392 ∷ negℤ (pos 232) ∷ [])
+    ∷ []
 
--- signed 16-bit numbers stand at a place one after the other
-unfoldable pub standAt : List ℤ → List ℕ → ℕ → Bool
-standAt [] s at = true
-standAt (z ∷ zs) s at = eqb (numberAt 2 s at) (bitsOf z) && standAt zs s (at + 2)
+-- a pair stands at a place, as two signed 16-bit numbers
+unfoldable pub pairAt : List ℕ → ℕ → List ℤ → Bool
+pairAt s at pair = eqb (numberAt 2 s at) (bitsOf (getD pair 0 (pos 0))) && eqb (numberAt 2 s (at + 2)) (bitsOf (getD pair 1 (pos 0)))
 
 -- the pair count is 7, and exactly the seven pairs follow it
 unfoldable pub pairsForm : List ℕ → Bool
-pairsForm s = eqb (numberAt 2 s 20) 7 && standAt pairs s 22
+pairsForm s = eqb (numberAt 2 s 20) 7 && every (λ i. pairAt s (22 + 4 * i) (getD pairs i [])) 0 7
 
 -- average = rate x align
 unfoldable pub average : List ℕ → Bool

@@ -8,7 +8,7 @@ ghost use mathlib.Core.Path.{_≡_};
 ghost use mathlib.Core.Bool.{_||_};
 ghost use Prim.Native.Nat.{_≤_, _<_};
 ghost use lib.Dec.{eqb};
-ghost use Rattle.formats.specs.Format.{formatOf, samplesIn, extended, pairsForm, average, formatForm};
+ghost use Rattle.formats.specs.Format.{formatOf, samplesIn, extended, pairAt, pairsForm, average, formatForm};
 ghost use Rattle.formats.specs.Format.{shared, pcmRule, blocked, imaRule, microsoftRule, formatRule};
 ghost use Rattle.formats.specs.Frames.{wholeBlocks, framesOf, factForm, needsFact, blocksIn, countFits, framesRule};
 
@@ -19,21 +19,14 @@ pub const MICROSOFT: u16 = 2;
 pub const IMA: u16 = 17;
 
 // The seven pairs of a Microsoft `fmt `.
-pub const PAIRS: [i16; 14] = [
-    256,
-    0,
-    512,
-    -256,
-    0,
-    0,
-    192,
-    64,
-    240,
-    0,
-    460,
-    -208,
-    392,
-    -232,
+pub const PAIRS: [[i16; 2]; 7] = [
+    [256, 0],
+    [512, -256],
+    [0, 0],
+    [192, 64],
+    [240, 0],
+    [460, -208],
+    [392, -232],
 ];
 
 // How the sound is coded; samples is the samples of a block in each channel, 1 for PCM.
@@ -85,6 +78,19 @@ fn has_extension(bytes: &[u8], size: usize, extension: usize) -> bool
     18 + stored <= bytes.len()
 }
 
+// Whether a pair stands at a place.
+fn has_pair(bytes: &[u8], at: usize, pair: [i16; 2]) -> bool
+    requires { ⌜ at ≤ 65536 ⌝ }
+    ensures { λ r. ⌜ r ≡ pairAt (now (bytes .entry)) at pair ⌝ }
+{
+    let first = little::u16_or_zero(bytes, at);
+    if first != samples::to_bits(pair[0]) {
+        return false;
+    }
+    let second = little::u16_or_zero(bytes, at + 2);
+    second == samples::to_bits(pair[1])
+}
+
 // Whether the seven pairs follow a pair count of 7.
 fn has_pairs(bytes: &[u8]) -> bool
     ensures { λ r. ⌜ r ≡ pairsForm (now (bytes .entry)) ⌝ }
@@ -95,10 +101,10 @@ fn has_pairs(bytes: &[u8]) -> bool
     }
     let pairs = PAIRS;
     let mut i = 0;
-    while i < 14 {
-        let wanted = samples::to_bits(pairs[i]);
-        let stored = little::u16_or_zero(bytes, 22 + 2 * i);
-        if stored != wanted {
+    while i < 7 {
+        let pair = pairs[i];
+        let stands = has_pair(bytes, 22 + 4 * i, pair);
+        if !stands {
             return false;
         }
         i += 1;
