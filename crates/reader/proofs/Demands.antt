@@ -1,11 +1,11 @@
 -- What reading promises besides its definition: each by the cases of what a file holds. Assumes nothing.
 use mathlib.Core.Path.{_≡_, refl, sym, ap, _∙_}
-use mathlib.Core.Bool.{Bool, true, false, cond, _&&_}
+use mathlib.Core.Bool.{Bool, true, false, not, cond, _&&_, _||_}
 use mathlib.Core.List.{List, []}
 use Prim.Native.Nat.{ℕ}
 use native.Mathlib.Omega.{arith}
 use Rattle.units.specs.declared.Refusal.{Refusal}
-use Rattle.units.specs.declared.Refusal.the-variants.{FormatOrDataMissing}
+use Rattle.units.specs.declared.Refusal.the-variants.{LengthOutOfRange, NotWave, RiffSizeWrong, FormatOrDataMissing}
 use Rattle.units.specs.declared.Verdict.{Verdict}
 use Rattle.units.specs.declared.Verdict.the-variants.{Accepted, Refused}
 use Rattle.riff.specs.declared.Directory.{Directory}
@@ -13,16 +13,17 @@ use Rattle.riff.specs.declared.Spot.{Spot}
 use Rattle.riff.specs.declared.Spot.the-variants.{At, Missing}
 use Rattle.riff.specs.declared.Walked.{Walked}
 use Rattle.riff.specs.declared.Walked.the-variants.{Whole, Stopped}
-use Rattle.riff.specs.Chunks.{isThere}
-use Rattle.riff.specs.Walk.{partOf, directoryOf}
+use Rattle.units.specs.Refusals.{numberOf, verdictNumber}
+use Rattle.riff.specs.Chunks.{badLength, noWave, badSize, headVerdict, isThere}
+use Rattle.riff.specs.Walk.{partOf, walkOf, opened, directoryOf}
 use Rattle.tables.specs.Cues.{noCue}
 use Rattle.tables.specs.Plays.{noPlay}
 use Rattle.tables.proofs.Entries.{all-zero, cues-zero, plays-zero}
 use Rattle.rules.specs.declared.Record.{Record}
-use Rattle.rules.specs.Rules.{recordOf, blank}
+use Rattle.rules.specs.Rules.{recordOf, demand, verdictOf, blank}
 use Rattle.reader.specs.Content.{Content, refused, holds, taken, soundPart, cuePart, playlistPart, recordAt, verdictAt, contentAt, contentIn, contentOf, readingOf, soundOf, reading, soundIn}
 use Rattle.reader.proofs.Laws.{silent}
-use Rattle.reader.specs.Demands.{Tied, Part, Empty, Refusing, ZeroPast}
+use Rattle.reader.specs.Demands.{chunkNumber, Numbered, Tied, Part, Refusing, ZeroPast}
 
 pub tied : (s : List ℕ) → Tied s
 unfolding reading soundIn
@@ -76,3 +77,35 @@ zero-past s =
     (λ r. record { cues = λ i h. all-zero noCue 64 i; plays = λ i h. all-zero noPlay 64 i })
     s
     (λ d. record { cues = λ i h. cues-zero (cuePart s d) i h; plays = λ i h. plays-zero (playlistPart s d) i h })
+
+-- ---- the number: each demand is a row of the table
+demand-row : (b : Bool) (r : Refusal) (v : Verdict) → verdictNumber (demand b r v) ≡ cond (not b) (numberOf r) (verdictNumber v)
+demand-row true r v = refl
+demand-row false r v = refl
+
+taken-row : (a b : Bool) (v : Verdict) (m : Record) (w : List ℕ)
+    → verdictNumber (readingOf (cond (a && b) (taken v m w) (refused FormatOrDataMissing)) .verdict) ≡ cond (not a || not b) 8 (verdictNumber v)
+taken-row true true Accepted m w = refl
+taken-row true true (Refused r) m w = refl
+taken-row true false v m w = refl
+taken-row false b v m w = refl
+
+chunk-rows : (s : List ℕ) (w : Walked) → verdictNumber (readingOf (contentIn s w) .verdict) ≡ chunkNumber s w
+unfolding contentAt verdictOf
+chunk-rows s (Stopped r) = refl
+chunk-rows s (Whole d) =
+    taken-row (isThere (d .format)) (isThere (d .sound)) (verdictAt s d) (recordAt s d) (soundPart s d) ∙ simp demand-row
+
+head-row : (s : List ℕ) (b : Bool) (r : Refusal) (v : Verdict) (w : Walked)
+    → verdictNumber (readingOf (contentIn s (opened (cond b (Refused r) v) w)) .verdict)
+    ≡ cond b (numberOf r) (verdictNumber (readingOf (contentIn s (opened v w)) .verdict))
+head-row s true r v w = refl
+head-row s false r v w = refl
+
+pub numbered : (s : List ℕ) → Numbered s
+unfolding reading contentOf directoryOf headVerdict
+numbered s =
+    head-row s (badLength s) LengthOutOfRange _ (walkOf s)
+    ∙ ap (cond (badLength s) 1) (head-row s (noWave s) NotWave _ (walkOf s)
+    ∙ ap (cond (noWave s) 2) (head-row s (badSize s) RiffSizeWrong Accepted (walkOf s)
+    ∙ ap (cond (badSize s) 3) (chunk-rows s (walkOf s))))

@@ -24,7 +24,7 @@ use Rattle.formats.specs.Frames.{needsFact}
 use Rattle.rules.specs.declared.Record.{Record}
 use Rattle.rules.specs.declared.Reading.{Reading}
 use Rattle.rules.specs.Rules.{turnedAway, answer, judged}
-use Rattle.reader.specs.Content.{Content, refused, holds, taken, zeros, formatPart, soundPart, soundSize, cuePart, playlistPart, verdictAt, recordAt, contentAt, contentIn, contentOf, readingOf, soundOf, reading, soundIn}
+use Rattle.reader.specs.Content.{Content, refused, holds, taken, zeros, formatPart, soundPart, cuePart, playlistPart, verdictAt, recordAt, contentAt, contentIn, contentOf, readingOf, soundOf, reading, soundIn}
 
 -- ---- parts
 module _ (s : List ℕ) (spot : Spot) (f : Format) (needed needless : List ℕ) {a : Bool} (e : a ≡ needsFact f) {r : List ℕ} where

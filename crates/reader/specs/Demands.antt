@@ -1,15 +1,45 @@
 -- What reading promises besides its definition, for every file. `proofs/Demands.antt` proves each. Assumes nothing.
 use Prim.Native.Nat.{ℕ, _≤_}
 use mathlib.Core.Path.{_≡_}
+use mathlib.Core.Bool.{not, cond, _||_}
 use mathlib.Core.List.{List, []}
 use lib.ListN.{take, drop, getD}
 use Rattle.units.specs.declared.Refusal.{Refusal}
 use Rattle.units.specs.declared.Verdict.the-variants.{Refused}
+use Rattle.units.specs.Refusals.{numberOf, verdictNumber}
+use Rattle.riff.specs.declared.Walked.{Walked}
+use Rattle.riff.specs.declared.Walked.the-variants.{Whole, Stopped}
+use Rattle.riff.specs.Chunks.{badLength, noWave, badSize, isThere}
+use Rattle.riff.specs.Walk.{walkOf}
+use Rattle.formats.specs.Frames.{wholeBlocks}
 use Rattle.tables.specs.Cues.{noCue}
 use Rattle.tables.specs.Plays.{noPlay}
 use Rattle.rules.specs.declared.Record.{Record}
-use Rattle.rules.specs.Rules.{blank}
-use Rattle.reader.specs.Content.{taken, contentOf, reading, soundIn}
+use Rattle.rules.specs.Rules.{formatFine, factFine, cuesFine, playsFine, blank}
+use Rattle.reader.specs.Content.{formatPart, soundSize, factPart, cuePart, playlistPart, recordAt, taken, contentOf, reading, soundIn}
+
+-- ---- the number that a file gets, in the order of checks and the numbers of document 01; 0 is taken
+
+-- 4 to 7 as the walk says; then 8 to 13 by number
+abbrev pub chunkNumber : List ℕ → Walked → ℕ
+chunkNumber s (Stopped r) = numberOf r
+chunkNumber s (Whole d) =
+    cond (not (isThere (d .format)) || not (isThere (d .sound))) 8
+    (cond (not (formatFine (formatPart s d) (recordAt s d .format))) 9
+    (cond (not (wholeBlocks (recordAt s d .format) (soundSize s d))) 10
+    (cond (not (factFine (factPart s d) (recordAt s d .format) (soundSize s d) (recordAt s d .frames))) 11
+    (cond (not (cuesFine (cuePart s d) (recordAt s d .cues) (recordAt s d .frames))) 12
+    (cond (not (playsFine (playlistPart s d) (recordAt s d .playlist) (recordAt s d .cues) (recordAt s d .frames))) 13
+    0)))))
+
+-- 1, 2, 3; then the walk
+abbrev pub numberGiven : List ℕ → ℕ
+numberGiven s = cond (badLength s) 1 (cond (noWave s) 2 (cond (badSize s) 3 (chunkNumber s (walkOf s))))
+
+abbrev pub Numbered : List ℕ → Type 0
+Numbered s = verdictNumber (reading s .verdict) ≡ numberGiven s
+
+-- ---- what it answers
 
 -- the two answers together are what the file holds
 abbrev pub Tied : List ℕ → Type 0

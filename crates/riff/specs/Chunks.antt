@@ -22,12 +22,23 @@ use Rattle.riff.specs.declared.Directory.{Directory}
 
 -- ---- the header
 
--- length under 12 or over the limit; bytes 0-3 not `RIFF` or 8-11 not `WAVE`; RIFF size R is odd, or 8+R is not the length
+-- length under 12 or over the limit
+abbrev pub badLength : List ℕ → Bool
+badLength s = ltb (length s) 12 || ltb 1073741824 (length s)
+
+-- bytes 0-3 not `RIFF` or 8-11 not `WAVE`
+abbrev pub noWave : List ℕ → Bool
+noWave s = not (isAt s 0 code.Riff) || not (isAt s 8 code.Wave)
+
+-- RIFF size R is odd, or 8+R is not the length
+abbrev pub badSize : List ℕ → Bool
+badSize s = not (eqb (numberAt 4 s 4 % 2) 0) || not (eqb (8 + numberAt 4 s 4) (length s))
+
 unfoldable pub headVerdict : List ℕ → Verdict
 headVerdict s =
-    cond (ltb (length s) 12 || ltb 1073741824 (length s)) (verdict.Refused LengthOutOfRange)
-    (cond (not (isAt s 0 code.Riff) || not (isAt s 8 code.Wave)) (verdict.Refused NotWave)
-    (cond (not (eqb (numberAt 4 s 4 % 2) 0) || not (eqb (8 + numberAt 4 s 4) (length s))) (verdict.Refused RiffSizeWrong)
+    cond (badLength s) (verdict.Refused LengthOutOfRange)
+    (cond (noWave s) (verdict.Refused NotWave)
+    (cond (badSize s) (verdict.Refused RiffSizeWrong)
     verdict.Accepted))
 
 -- ---- a chunk: a four-byte code, a four-byte size and that many bytes, plus one pad byte if the size is odd

@@ -19,7 +19,7 @@ use Rattle.tables.specs.Cues.{cuesOf}
 use Rattle.tables.specs.Plays.{playsOf}
 use Rattle.rules.specs.declared.Record.{Record}
 use Rattle.rules.specs.declared.Reading.{Reading}
-use Rattle.rules.specs.Rules.{fine, formatFine, factFine, cuesFine, playsFine, demand, verdictOf, recordOf, blank, turnedAway, answer, judged}
+use Rattle.rules.specs.Rules.{fine, formatFine, factFine, cuesFine, playsFine, verdictOf, recordOf, blank, turnedAway, answer, judged}
 
 -- ---- form and rule
 module _ (form rule : Bool) {x : Bool} (e : x ≡ form) where

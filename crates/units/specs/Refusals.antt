@@ -1,7 +1,9 @@
--- The table of refusal numbers, row by row. Assumes nothing.
+-- The table of refusal numbers, row by row, and the number of a verdict. Assumes nothing.
 use Prim.Native.Nat.{ℕ}
 use Rattle.units.specs.declared.Refusal.{Refusal}
 use Rattle.units.specs.declared.Refusal.the-variants.{LengthOutOfRange, NotWave, RiffSizeWrong, ChunkPastTheEnd, SecondOfItsKind, DataBeforeFormat, WaveList, FormatOrDataMissing, FormatWrong, NotWholeFrames, FactWrong, CuesWrong, PlaylistWrong, OutputTooSmall, BlockHeaderWrong, SongEmptyOrDifferent, NoPlaceOnSide, AlreadyListed, NotASide, NoSuchBlock}
+use Rattle.units.specs.declared.Verdict.{Verdict}
+use Rattle.units.specs.declared.Verdict.the-variants.{Accepted, Refused}
 
 -- the number of a refusal; above each, when it is given, besides where an operation says so
 abbrev pub numberOf : Refusal → ℕ
@@ -45,3 +47,8 @@ numberOf AlreadyListed = 18
 numberOf NotASide = 19
 -- no such block
 numberOf NoSuchBlock = 20
+
+-- the number that a verdict tells: 0 where the input is taken
+abbrev pub verdictNumber : Verdict → ℕ
+verdictNumber Accepted = 0
+verdictNumber (Refused r) = numberOf r
