@@ -95,12 +95,31 @@ def samples():
     return data, '\n'.join(lines) + '\n'
 
 
+def left_out(file, expected):
+    """What the listing of a file leaves out, found by a walk of its own; of a refused file, all zero."""
+    chunks, at = {}, 12
+    if not expected[0].startswith('refused'):
+        while at < len(file):
+            code, size = struct.unpack_from('<4sI', file, at)
+            chunks[code] = at + 8, file[at + 8:at + 8 + size]
+            at += 8 + size + size % 2
+    layout = chunks.get(b'fmt ', (0, bytes(20)))[1]
+    tag, align = struct.unpack_from('<H', layout)[0], struct.unpack_from('<H', layout, 12)[0]
+    samples = 1 if tag == 1 else struct.unpack_from('<H', layout, 18)[0]
+    cues = chunks.get(b'cue ', (0, bytes(4)))[1]
+    positions = [struct.unpack_from('<I', cues, i + 4)[0] for i in range(4, len(cues), 24)]
+    start, sound = chunks.get(b'data', (None, b''))
+    where = '' if start is None else f' at {start}'
+    return [f'align {align} samples {samples} positions' + ''.join(f' {position}' for position in positions),
+            f'sound{where} bytes {len(sound)} mixed {mixed(sound)}']
+
+
 def reader():
     """The files of tests/wave_files.py, one after the other."""
     data, lines = b'', []
     for label, file, expected in wave_files.all_files():
-        data += bytes([len(label)]) + label.encode() + struct.pack('<I', len(file)) + file
-        lines += [label] + expected
+        data += struct.pack('<H', len(label)) + label.encode() + struct.pack('<I', len(file)) + file
+        lines += [label] + expected + left_out(file, expected)
     return data, '\n'.join(lines) + '\n'
 
 

@@ -33,8 +33,14 @@ def microsoft(channels=1, align=8, samples=4, extension=32, bits=4, count=7, pai
     return fmt(2, channels, 8000, 0, align, bits, tail + more)
 
 
+def retag(made, tag):
+    """A `fmt ` with another tag."""
+    return made[:8] + struct.pack('<H', tag) + made[10:]
+
+
 def data(n=8):
-    return chunk(b'data', bytes(n))
+    """Sound that tells its places apart; nothing here looks into it."""
+    return chunk(b'data', bytes((7 * i + 1) % 251 for i in range(n)))
 
 
 def fact(count):
@@ -139,6 +145,8 @@ def formats():
     yield 'fmt of 40 bytes', wave(fmt(more=bytes(24)), data()), pcm()
     for tag in (0, 3, 16, 18, 273, 65534):
         yield f'tag {tag}', wave(fmt(tag=tag), data()), refused(9)
+        yield f'tag {tag} in an IMA format', wave(retag(ima(), tag), fact(1), data()), refused(9)
+        yield f'tag {tag} in a Microsoft format', wave(retag(microsoft(), tag), fact(1), data()), refused(9)
     yield 'no channel', wave(fmt(channels=0, align=2), data()), refused(9)
     yield 'two channels', wave(fmt(channels=2), data()), pcm(2, channels=2)
     yield 'three channels', wave(fmt(channels=3), data(12)), refused(9)
@@ -276,6 +284,7 @@ def playlists():
     one, two = cue(point(7, 0)), cue(point(7, 0), point(8, 3))
     both = pcm() + ['cue 7 at 0', 'cue 8 at 3']
     yield 'plst of no bytes', wave(fmt(), chunk(b'plst'), data()), refused(13)
+    yield 'plst of 3 bytes', wave(fmt(), chunk(b'plst', b'\0\0\0'), data()), refused(13)
     yield 'no entries', wave(fmt(), plst(), data()), pcm()
     yield 'no entries, two bytes more', wave(fmt(), plst(more=b'\0\0'), data()), refused(13)
     yield 'one entry counted, none there', wave(fmt(), one, plst(count=1), data()), refused(13)

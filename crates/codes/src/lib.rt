@@ -2,23 +2,24 @@
 ghost use mathlib.Core.Path.{_≡_};
 ghost use Rattle.codes.specs.Codes.{codeNumber, isAt};
 
-pub const RIFF: u32 = 1179011410;
+// The codes as numbers: the first letter is the least significant byte.
+const RIFF: u32 = 1179011410;
 
-pub const WAVE: u32 = 1163280727;
+const WAVE: u32 = 1163280727;
 
-pub const FORMAT: u32 = 544501094;
+const FORMAT: u32 = 544501094;
 
-pub const DATA: u32 = 1635017060;
+const DATA: u32 = 1635017060;
 
-pub const FACT: u32 = 1952670054;
+const FACT: u32 = 1952670054;
 
-pub const CUE: u32 = 543520099;
+const CUE: u32 = 543520099;
 
-pub const PLAYLIST: u32 = 1953721456;
+const PLAYLIST: u32 = 1953721456;
 
-pub const LIST: u32 = 1414744396;
+const LIST: u32 = 1414744396;
 
-pub const WAVE_LIST: u32 = 1819697527;
+const WAVE_LIST: u32 = 1819697527;
 
 // The codes that mean something here.
 pub enum Code {

@@ -9,7 +9,7 @@ use Rattle.units.specs.declared.BytePlace.{BytePlace}
 use Rattle.units.specs.declared.Frames.{Frames}
 use Rattle.formats.specs.declared.Format.{Format}
 
--- n bytes of sound data are a multiple of align
+-- n bytes of sound data are a multiple of align; an align of 0, which is 9 before, has no multiples here
 unfoldable pub wholeBlocks : Format → BytePlace → Bool
 wholeBlocks f n = leb 1 (f .align) && eqb (n .0 % f .align) 0
 

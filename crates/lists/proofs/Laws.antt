@@ -1,7 +1,7 @@
 -- Laws of numbers among others and of tests over a range, in the words of the loops. Assumes nothing.
 use mathlib.Core.Path.{_≡_, refl, sym, ap, _∙_}
 use mathlib.Core.Bool.{Bool, true, false, not, cond, _&&_}
-use mathlib.Core.List.{List}
+use mathlib.Core.List.{List, []}
 use Prim.Native.Nat.{ℕ, suc, _+_, _-_, _≤_, _<_}
 use native.Mathlib.Nat.{le-of-lt}
 use native.Mathlib.Numerals.{add-one}
@@ -9,7 +9,7 @@ use native.Mathlib.Omega.{arith}
 use lib.Dec.{eqb, ltb}
 use lib.ListN.{length, take, drop, getD, drop-of-length-le, length-drop}
 use lib.Seq.{drop-cons, take-all}
-use borrow.Author.Tests.{eq-eqb, ne-eqb, lt-ltb, le-ltb}
+use borrow.Author.Tests.{eq-eqb, ne-eqb, lt-ltb, le-ltb, ltb-true, ltb-false}
 use Rattle.lists.specs.Among.{indexIn, has, distinct}
 use Rattle.lists.specs.Every.{every, allBelow}
 
@@ -55,41 +55,61 @@ pub ruleset seeking = (seek-begins, seek-room, seek-ends, seek-found, seek-next)
 
 -- ---- none of the first i stands in the list again
 pub record Differing (ys : List ℕ) (i : ℕ) : Type 0 where
+  pub room : i ≤ length ys
   pub same : distinct (drop i ys) ≡ distinct ys
 
 module _ {ys : List ℕ} where
   pub differ-begins : Differing ys 0
-  differ-begins = record { same = refl }
+  differ-begins = record { room = omega arith; same = refl }
 
   module _ {i : ℕ} (w : Differing ys i) where
-    pub differ-ends : length ys ≤ i → true ≡ distinct ys
+    pub differ-room : i ≤ length ys
+    differ-room = w .room
+
+    -- what follows the number at i
+    abbrev after : List ℕ
+    after = take (length ys - (i + 1)) (drop (i + 1) ys)
+
+    whole : after ≡ drop (suc i) ys
+    whole =
+        let g : length (drop (i + 1) ys) ≤ length ys - (i + 1) = simp length-drop (omega arith) in
+        take-all (length ys - (i + 1)) (drop (i + 1) ys) g ∙ ap (λ (k : ℕ). drop k ys) (add-one i)
+
+    rest-from : i < length ys → {b : Bool} → has (getD ys i 0) after ≡ b → (not b && distinct (drop (suc i) ys)) ≡ distinct ys
     unfolding distinct
-    differ-ends h = sym (ap distinct (drop-of-length-le ys h)) ∙ w .same
+    rest-from h t = sym (ap distinct (drop-cons ys i 0 h) ∙ simp (← whole, t)) ∙ w .same
 
-    module _ (h : i < length ys) where
-      -- what follows the number at i
-      abbrev after : List ℕ
-      after = take (length ys - (i + 1)) (drop (i + 1) ys)
+    -- the last number has none after it
+    pub differ-ends : length ys ≤ i + 1 → true ≡ distinct ys
+    unfolding distinct has indexIn
+    differ-ends h =
+        let e : drop (suc i) ys ≡ [] = drop-of-length-le ys {i = suc i} (omega arith) in
+        by (ltb i (length ys)) refl e
+      where
+        by : (b : Bool) → ltb i (length ys) ≡ b → drop (suc i) ys ≡ [] → true ≡ distinct ys
+        by true t e = sym (ap distinct (drop-cons ys i 0 (ltb-true i (length ys) t)) ∙ simp e) ∙ w .same
+        by false t e = sym (ap distinct (drop-of-length-le ys (ltb-false i (length ys) t))) ∙ w .same
 
-      whole : after ≡ drop (suc i) ys
-      whole =
-          let g : length (drop (i + 1) ys) ≤ length ys - (i + 1) = simp length-drop (omega arith) in
-          take-all (length ys - (i + 1)) (drop (i + 1) ys) g ∙ ap (λ (k : ℕ). drop k ys) (add-one i)
-
-      rest-from : {b : Bool} → has (getD ys i 0) after ≡ b → (not b && distinct (drop (suc i) ys)) ≡ distinct ys
-      unfolding distinct
-      rest-from t = sym (ap distinct (drop-cons ys i 0 h) ∙ simp (← whole, t)) ∙ w .same
-
+    module _ (h : i + 1 < length ys) where
       pub differ-twice : {n : ℕ} → n < length after → n ≡ indexIn (getD ys i 0) after → false ≡ distinct ys
       unfolding has
-      differ-twice {n} g f = rest-from {b = true} (simp (← f, lt-ltb n (length after) g))
+      differ-twice {n} g f = rest-from (omega arith) {b = true} (simp (← f, lt-ltb n (length after) g))
+
+      -- the very next number is one that follows
+      pub differ-beside : {n : ℕ} → n < 1 → n ≡ indexIn (getD ys i 0) after → false ≡ distinct ys
+      differ-beside {n} g f =
+          let l : length after ≡ length ys - (i + 1) = ap length whole ∙ length-drop (suc i) ys ∙ omega arith in
+          differ-twice (omega arith) f
 
       pub differ-next : {n : ℕ} → length after ≤ n → n ≡ indexIn (getD ys i 0) after → Differing ys (i + 1)
       unfolding has
       differ-next {n} g f =
-          record { same = ap (λ (k : ℕ). distinct (drop k ys)) (add-one i) ∙ rest-from {b = false} (simp (← f, le-ltb n (length after) g)) }
+          record {
+            room = omega arith;
+            same = ap (λ (k : ℕ). distinct (drop k ys)) (add-one i) ∙ rest-from (omega arith) {b = false} (simp (← f, le-ltb n (length after) g));
+          }
 
-pub ruleset differing = (differ-begins, differ-ends, differ-twice, differ-next)
+pub ruleset differing = (differ-begins, differ-room, differ-ends, differ-twice, differ-beside, differ-next)
 
 -- ---- the test holds at all places below i
 pub record Holding (test : ℕ → Bool) (n i : ℕ) : Type 0 where

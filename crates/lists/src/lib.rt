@@ -25,7 +25,7 @@ pub fn all_differ(numbers: &[u32]) -> bool
     ensures { λ r. ⌜ r ≡ distinct (now (numbers .entry)) ⌝ }
 {
     let mut i = 0;
-    while i < numbers.len() {
+    while i + 1 < numbers.len() {
         let number = numbers[i];
         let rest = &numbers[i + 1..];
         let place = find(rest, number);

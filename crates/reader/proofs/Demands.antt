@@ -1,5 +1,5 @@
 -- What reading promises besides its definition: each by the cases of what a file holds. Assumes nothing.
-use mathlib.Core.Path.{_≡_, refl, sym, ap, _∙_}
+use mathlib.Core.Path.{_≡_, refl, ap, _∙_}
 use mathlib.Core.Bool.{Bool, true, false, not, cond, _&&_, _||_}
 use mathlib.Core.List.{List, []}
 use Prim.Native.Nat.{ℕ}
@@ -10,7 +10,6 @@ use Rattle.units.specs.declared.Verdict.{Verdict}
 use Rattle.units.specs.declared.Verdict.the-variants.{Accepted, Refused}
 use Rattle.riff.specs.declared.Directory.{Directory}
 use Rattle.riff.specs.declared.Spot.{Spot}
-use Rattle.riff.specs.declared.Spot.the-variants.{At, Missing}
 use Rattle.riff.specs.declared.Walked.{Walked}
 use Rattle.riff.specs.declared.Walked.the-variants.{Whole, Stopped}
 use Rattle.units.specs.Refusals.{numberOf, verdictNumber}
@@ -21,9 +20,8 @@ use Rattle.tables.specs.Plays.{noPlay}
 use Rattle.tables.proofs.Entries.{all-zero, cues-zero, plays-zero}
 use Rattle.rules.specs.declared.Record.{Record}
 use Rattle.rules.specs.Rules.{recordOf, demand, verdictOf, blank}
-use Rattle.reader.specs.Content.{Content, refused, holds, taken, soundPart, cuePart, playlistPart, recordAt, verdictAt, contentAt, contentIn, contentOf, readingOf, soundOf, reading, soundIn}
-use Rattle.reader.proofs.Laws.{silent}
-use Rattle.reader.specs.Demands.{chunkNumber, Numbered, Tied, Part, Refusing, ZeroPast}
+use Rattle.reader.specs.Content.{Content, refused, holds, taken, soundPart, cuePart, playlistPart, recordAt, verdictAt, contentAt, contentIn, contentOf, readingOf, soundOf, reading, soundIn, spotBy, soundSpot}
+use Rattle.reader.specs.Demands.{chunkNumber, Numbered, Tied, Placed, Refusing, ZeroPast}
 
 pub tied : (s : List ℕ) → Tied s
 unfolding reading soundIn
@@ -33,13 +31,36 @@ tied s = by (contentOf s)
     by (refused r) = refl
     by (holds m w) = refl
 
+pub placed : (s : List ℕ) → Placed s
+unfolding reading soundIn contentOf contentAt soundSpot
+placed s = by (directoryOf s)
+  where
+    at : (d : Directory) (b : Bool) (v : Verdict) (m : Record)
+        → partOf s (spotBy (readingOf (cond b (taken v m (soundPart s d)) (refused FormatOrDataMissing)) .verdict) (Whole d)) []
+        ≡ soundOf (cond b (taken v m (soundPart s d)) (refused FormatOrDataMissing))
+    at d true Accepted m = refl
+    at d true (Refused r) m = refl
+    at d false v m = refl
+
+    by : (w : Walked) → partOf s (spotBy (readingOf (contentIn s w) .verdict) w) [] ≡ soundOf (contentIn s w)
+    by (Whole d) = at d (isThere (d .format) && isThere (d .sound)) (verdictAt s d) (recordAt s d)
+    by (Stopped r) = refl
+
+-- in the words of the code
+pub sound-placed : (s : List ℕ) {spot : Spot} {w : List ℕ} → spot ≡ soundSpot s → w ≡ partOf s spot [] → w ≡ soundIn s
+sound-placed s f g = g ∙ ap (λ (x : Spot). partOf s x []) f ∙ placed s
+
 pub refusing : (s : List ℕ) → Refusing s
 unfolding reading soundIn
-refusing s r e = record { made = made (contentOf s) e; sound = sym (silent (contentOf s) e) }
+refusing s r e = record { made = made (contentOf s) e; sound = sound (contentOf s) e }
   where
     made : (c : Content) → readingOf c .verdict ≡ Refused r → readingOf c .made ≡ blank
     made (refused x) h = refl
     made (holds m w) h = let z : _≡_ {A = ℕ} 0 1 = cc in absurd (omega arith)
+
+    sound : (c : Content) → readingOf c .verdict ≡ Refused r → soundOf c ≡ []
+    sound (refused x) h = refl
+    sound (holds m w) h = let z : _≡_ {A = ℕ} 0 1 = cc in absurd (omega arith)
 
 -- ---- a file holds nothing, or the record and the sound of its directory
 module _ (P : Content → Type 0) (none : (r : Refusal) → P (refused r)) where
@@ -60,15 +81,6 @@ module _ (P : Content → Type 0) (none : (r : Refusal) → P (refused r)) where
           demanded (isThere (d .format) && isThere (d .sound)) _
           (either (verdictAt s d) (recordAt s d) (soundPart s d) (some d))
       by (Stopped r) = none r
-
-pub sound-part : (s : List ℕ) → Part s (soundIn s)
-unfolding soundIn
-sound-part s =
-    in-content (λ c. Part s (soundOf c)) (λ r. record { from = 0; size = 0; same = refl }) s (λ d. by (d .sound))
-  where
-    by : (spot : Spot) → Part s (partOf s spot [])
-    by (At p) = record { from = p .start .0; size = p .size .0; same = refl }
-    by Missing = record { from = 0; size = 0; same = refl }
 
 pub zero-past : (s : List ℕ) → ZeroPast (reading s .made)
 unfolding reading recordOf

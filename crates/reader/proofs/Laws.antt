@@ -1,6 +1,6 @@
 -- Reading by a file's directory, in the words of the code. Assumes nothing.
 use mathlib.Core.Path.{_≡_, refl, sym, ap, _∙_}
-use mathlib.Core.Bool.{Bool, true, false, not, cond, _&&_}
+use mathlib.Core.Bool.{Bool, true, false, not, cond}
 use mathlib.Core.List.{List, []}
 use Prim.Native.Nat.{ℕ, _≤_, _<_}
 use native.Mathlib.Omega.{arith}
@@ -24,7 +24,7 @@ use Rattle.formats.specs.Frames.{needsFact}
 use Rattle.rules.specs.declared.Record.{Record}
 use Rattle.rules.specs.declared.Reading.{Reading}
 use Rattle.rules.specs.Rules.{turnedAway, answer, judged}
-use Rattle.reader.specs.Content.{Content, refused, holds, taken, zeros, formatPart, soundPart, cuePart, playlistPart, verdictAt, recordAt, contentAt, contentIn, contentOf, readingOf, soundOf, reading, soundIn}
+use Rattle.reader.specs.Content.{Content, taken, zeros, formatPart, soundPart, cuePart, playlistPart, verdictAt, recordAt, contentAt, contentIn, contentOf, readingOf, reading, spotBy, soundSpot}
 
 -- ---- parts
 module _ (s : List ℕ) (spot : Spot) (f : Format) (needed needless : List ℕ) {a : Bool} (e : a ≡ needsFact f) {r : List ℕ} where
@@ -71,44 +71,37 @@ part-fits s Missing h e = simp e (omega arith)
 
 pub ruleset parts = (read-judged, part-fits)
 
--- ---- a file's reading and its sound
-pub silent : (c : Content) {r : Refusal} → readingOf c .verdict ≡ Refused r → [] ≡ soundOf c
-silent (refused r) h = refl
-silent (holds m v) h = let z : _≡_ {A = ℕ} 0 1 = cc in absurd (omega arith)
-
+-- ---- a file's reading
 module _ (s : List ℕ) {w : Walked} (e : w ≡ directoryOf s) where
   content-by : {v : Walked} → w ≡ v → contentOf s ≡ contentIn s v
   unfolding contentOf
   content-by f = ap (contentIn s) (sym e ∙ f)
 
-  module _ {r : Refusal} (f : w ≡ Stopped r) where
-    pub read-stopped : {x : Reading} → x ≡ turnedAway r → x ≡ reading s
-    unfolding reading
-    read-stopped g = g ∙ sym (ap readingOf (content-by f))
+  pub read-stopped : {r : Refusal} {x : Reading} → w ≡ Stopped r → x ≡ turnedAway r → x ≡ reading s
+  unfolding reading
+  read-stopped f g = g ∙ sym (ap readingOf (content-by f))
 
-    pub sound-stopped : [] ≡ soundIn s
-    unfolding soundIn
-    sound-stopped = sym (ap soundOf (content-by f))
+  pub read-whole : {d : Directory} {x : Reading} → w ≡ Whole d → x ≡ readingOf (contentAt s d) → x ≡ reading s
+  unfolding reading
+  read-whole f g = g ∙ sym (ap readingOf (content-by f))
+
+  -- ---- where its sound stands
+  spot-by : {v : Verdict} {u : Walked} → reading s .verdict ≡ v → w ≡ u → spotBy v u ≡ soundSpot s
+  unfolding soundSpot
+  spot-by f g = simp (f, ← e, g)
+
+  pub spot-stopped : {r : Refusal} → w ≡ Stopped r → Missing ≡ soundSpot s
+  unfolding reading
+  spot-stopped f = spot-by (ap (λ (c : Content). readingOf c .verdict) (content-by f)) f
 
   module _ {d : Directory} (f : w ≡ Whole d) {x : Reading} (g : x ≡ readingOf (contentAt s d)) where
-    pub read-whole : x ≡ reading s
-    unfolding reading
-    read-whole = g ∙ sym (ap readingOf (content-by f))
+    told : {v : Verdict} → x .verdict ≡ v → reading s .verdict ≡ v
+    told h = sym (ap (λ (y : Reading). y .verdict) (read-whole f g)) ∙ h
 
-    pub sound-refused : {r : Refusal} → x .verdict ≡ Refused r → [] ≡ soundIn s
-    unfolding soundIn
-    sound-refused h = silent (contentAt s d) (sym (ap (λ (y : Reading). y .verdict) g) ∙ h) ∙ sym (ap soundOf (content-by f))
+    pub spot-refused : {r : Refusal} → x .verdict ≡ Refused r → Missing ≡ soundSpot s
+    spot-refused h = spot-by (told h) f
 
-    sounding : (b : Bool) (v : Verdict) (m : Record) (u : List ℕ)
-        → readingOf (cond b (taken v m u) (refused FormatOrDataMissing)) .verdict ≡ Accepted
-        → u ≡ soundOf (cond b (taken v m u) (refused FormatOrDataMissing))
-    sounding true Accepted m u h = refl
-    sounding true (Refused r) m u h = let z : _≡_ {A = ℕ} 0 1 = cc in absurd (omega arith)
-    sounding false v m u h = let z : _≡_ {A = ℕ} 0 1 = cc in absurd (omega arith)
+    pub spot-taken : x .verdict ≡ Accepted → d .sound ≡ soundSpot s
+    spot-taken h = spot-by (told h) f
 
-    pub sound-taken : {y : List ℕ} → x .verdict ≡ Accepted → y ≡ soundPart s d → y ≡ soundIn s
-    unfolding soundIn contentAt
-    sound-taken h i =
-        i ∙ sounding (isThere (d .format) && isThere (d .sound)) (verdictAt s d) (recordAt s d) (soundPart s d) (sym (ap (λ (y : Reading). y .verdict) g) ∙ h) ∙ sym (ap soundOf (content-by f))
-
-pub ruleset whole = (whole-limit, read-stopped, sound-stopped, read-whole, sound-refused, sound-taken)
+pub ruleset whole = (whole-limit, read-stopped, read-whole, spot-stopped, spot-refused, spot-taken)

@@ -9,6 +9,8 @@ use Rattle.units.specs.declared.Refusal.the-variants.{FormatOrDataMissing}
 use Rattle.units.specs.declared.Verdict.{Verdict}
 use Rattle.units.specs.declared.Verdict.the-variants.{Accepted, Refused}
 use Rattle.riff.specs.declared.Directory.{Directory}
+use Rattle.riff.specs.declared.Spot.{Spot}
+use Rattle.riff.specs.declared.Spot.the-variants.{Missing}
 use Rattle.riff.specs.declared.Walked.{Walked}
 use Rattle.riff.specs.declared.Walked.the-variants.{Whole, Stopped}
 use Rattle.riff.specs.Chunks.{isThere}
@@ -75,7 +77,7 @@ contentIn s (Stopped r) = refused r
 unfoldable pub contentOf : List ℕ → Content
 contentOf s = contentIn s (directoryOf s)
 
--- ---- what the two operations tell of it
+-- ---- what the operations tell of it
 
 abbrev pub readingOf : Content → Reading
 readingOf (refused r) = turnedAway r
@@ -90,3 +92,12 @@ reading s = readingOf (contentOf s)
 
 unfoldable pub soundIn : List ℕ → List ℕ
 soundIn s = soundOf (contentOf s)
+
+-- where the sound stands: at the data of `data` where the file is taken
+abbrev pub spotBy : Verdict → Walked → Spot
+spotBy Accepted (Whole d) = d .sound
+spotBy Accepted (Stopped r) = Missing
+spotBy (Refused r) w = Missing
+
+unfoldable pub soundSpot : List ℕ → Spot
+soundSpot s = spotBy (reading s .verdict) (directoryOf s)

@@ -3,20 +3,20 @@ use Prim.Native.Nat.{ℕ, _≤_}
 use mathlib.Core.Path.{_≡_}
 use mathlib.Core.Bool.{not, cond, _||_}
 use mathlib.Core.List.{List, []}
-use lib.ListN.{take, drop, getD}
+use lib.ListN.{getD}
 use Rattle.units.specs.declared.Refusal.{Refusal}
 use Rattle.units.specs.declared.Verdict.the-variants.{Refused}
 use Rattle.units.specs.Refusals.{numberOf, verdictNumber}
 use Rattle.riff.specs.declared.Walked.{Walked}
 use Rattle.riff.specs.declared.Walked.the-variants.{Whole, Stopped}
 use Rattle.riff.specs.Chunks.{badLength, noWave, badSize, isThere}
-use Rattle.riff.specs.Walk.{walkOf}
+use Rattle.riff.specs.Walk.{walkOf, partOf}
 use Rattle.formats.specs.Frames.{wholeBlocks}
 use Rattle.tables.specs.Cues.{noCue}
 use Rattle.tables.specs.Plays.{noPlay}
 use Rattle.rules.specs.declared.Record.{Record}
 use Rattle.rules.specs.Rules.{formatFine, factFine, cuesFine, playsFine, blank}
-use Rattle.reader.specs.Content.{formatPart, soundSize, factPart, cuePart, playlistPart, recordAt, taken, contentOf, reading, soundIn}
+use Rattle.reader.specs.Content.{formatPart, soundSize, factPart, cuePart, playlistPart, recordAt, taken, contentOf, reading, soundSpot, soundIn}
 
 -- ---- the number that a file gets, in the order of checks and the numbers of document 01; 0 is taken
 
@@ -41,15 +41,13 @@ Numbered s = verdictNumber (reading s .verdict) ≡ numberGiven s
 
 -- ---- what it answers
 
--- the two answers together are what the file holds
+-- the answers together are what the file holds
 abbrev pub Tied : List ℕ → Type 0
 Tied s = taken (reading s .verdict) (reading s .made) (soundIn s) ≡ contentOf s
 
--- the sound is a part of the file
-pub record Part (s w : List ℕ) : Type 0 where
-  pub from : ℕ
-  pub size : ℕ
-  pub same : w ≡ take size (drop from s)
+-- the sound is the part of the file that stands where it is said to
+abbrev pub Placed : List ℕ → Type 0
+Placed s = partOf s (soundSpot s) [] ≡ soundIn s
 
 -- a refused file has no record and no sound
 pub record Empty (s : List ℕ) : Type 0 where

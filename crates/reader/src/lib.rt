@@ -16,7 +16,7 @@ ghost use lib.ListN.{length};
 ghost use Rattle.formats.specs.Frames.{needsFact};
 ghost use Rattle.riff.specs.Walk.{partOf};
 ghost use Rattle.rules.specs.Rules.{answer};
-ghost use Rattle.reader.specs.Content.{verdictAt, recordAt, contentAt, readingOf, reading, soundIn};
+ghost use Rattle.reader.specs.Content.{verdictAt, recordAt, contentAt, readingOf, reading, soundSpot, soundIn};
 
 // The bytes of the `fact`; of an absent one, what is lent for it where it is needed and where not.
 fn fact_part<'a>(
@@ -34,7 +34,8 @@ fn fact_part<'a>(
     riff::part(file, spot, needless)
 }
 
-// What the chunks of a file say, and the verdict on it.
+// What the chunks of a file say, and the verdict on it. Four zeros are a count of 0: an absent table
+// is read as an empty one.
 fn read_parts(file: &[u8], places: Directory) -> Reading
     requires { ⌜ length (now file) ≤ 1073741824 ⌝ }
     ensures { λ r. ⌜ r ≡ answer (verdictAt (now (file .entry)) places) (recordAt (now (file .entry)) places) ⌝ }
@@ -80,19 +81,26 @@ pub fn read(file: &[u8]) -> Reading
     }
 }
 
-// The sound data of a file, that very part of it; of a refused file, an empty part.
-pub fn sound_of(file: &[u8]) -> &[u8]
-    ensures { λ r. ⌜ now r ≡ soundIn (now (file .entry)) ⌝ }
+// Where the sound data of a file stand; of a refused file, nowhere.
+pub fn sound_spot(file: &[u8]) -> Spot
+    ensures { λ r. ⌜ r ≡ soundSpot (now (file .entry)) ⌝ }
 {
     let walked = riff::chunks(file);
     let Walked::Whole(places) = walked else {
-        return &file[..0];
+        return Spot::Missing;
     };
     let answer = read_chunks(file, places);
     let verdict = answer.verdict;
     let Verdict::Accepted = verdict else {
-        return &file[..0];
+        return Spot::Missing;
     };
-    let spot = places.sound;
+    places.sound
+}
+
+// The sound data of a file, that very part of it; of a refused file, an empty part.
+pub fn sound_of(file: &[u8]) -> &[u8]
+    ensures { λ r. ⌜ now r ≡ soundIn (now (file .entry)) ⌝ }
+{
+    let spot = sound_spot(file);
     riff::part(file, spot, &file[..0])
 }

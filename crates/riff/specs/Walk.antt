@@ -57,7 +57,7 @@ abbrev pub partOf : List ℕ → Spot → List ℕ → List ℕ
 partOf s (At p) absent = take (p .size .0) (drop (p .start .0) s)
 partOf s Missing absent = absent
 
--- the refusal that a step is; a chunk is none
+-- the refusal that a step is; a chunk is none, and any would do
 abbrev pub refusalOf : Step → Refusal
 refusalOf (Chunk p) = ChunkPastTheEnd
 refusalOf (Refused r) = r

@@ -61,7 +61,7 @@ pub enum Walked {
 }
 
 // Whether the length, the two codes and the size at the start of a file are right.
-pub fn head(file: &[u8]) -> Verdict
+fn head(file: &[u8]) -> Verdict
     ensures { λ r. ⌜ r ≡ headVerdict (now (file .entry)) ⌝ }
 {
     if file.len() < 12 {
@@ -263,7 +263,7 @@ fn kept(seen: Directory, place: Place) -> Directory
     }
 }
 
-// The refusal that a step is; of a chunk, that it is none.
+// The refusal that a step is. Of a chunk any answer would do: the walk does not ask.
 fn refusal_of(step: Step) -> Refusal
     ensures { λ r. ⌜ r ≡ refusalOf step ⌝ }
 {
@@ -302,7 +302,7 @@ pub fn chunks(file: &[u8]) -> Walked
 }
 
 // The n bytes of a file from a place, or as many as there are.
-fn bytes_from(file: &[u8], from: usize, n: usize) -> &[u8]
+pub fn bytes_from(file: &[u8], from: usize, n: usize) -> &[u8]
     ensures { λ r. ⌜ now r ≡ take n (drop from (now (file .entry))) ⌝ }
 {
     if file.len() <= from {

@@ -2,12 +2,9 @@
 //
 // Everything here goes by the bytes of the chunks, wherever they stood in a file.
 use formats::Format;
-use tables::Cue;
 use tables::Cues;
-use tables::Play;
 use tables::Playlist;
 use units::BytePlace;
-use units::Donation;
 use units::Frames;
 use units::Refusal;
 use units::Verdict;
@@ -41,23 +38,13 @@ fn blank_record() -> Record
         align: 0,
         samples: 0,
     };
-    let cue = Cue {
-        name: Donation(0),
-        position: Frames(0),
-        place: Frames(0),
-    };
-    let play = Play {
-        name: Donation(0),
-        length: Frames(0),
-        times: 0,
-    };
     let cues = Cues {
         count: 0,
-        list: [cue; 64],
+        list: tables::no_cues(),
     };
     let playlist = Playlist {
         count: 0,
-        list: [play; 64],
+        list: tables::no_plays(),
     };
     Record {
         format: format,

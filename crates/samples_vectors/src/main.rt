@@ -1,16 +1,7 @@
 // Prints the bytes on standard input (at most 64) as 16-bit and as 8-bit sound and the sound's bytes
 // again, numbers held to 16 bits, and for all 65,536 samples and all 256 values of 8-bit sound
 // numbers that are mixed of them in order.
-ghost use Prim.Native.Nat.{_<_};
 use libc::STDIN_FILENO;
-
-// One number more, mixed into those before it. 1,000,003 is a prime.
-fn mixed(before: u64, value: u64) -> u64
-    requires { ⌜ before < 1000003 ⌝ }
-    ensures { λ r. ⌜ r < 1000003 ⌝ }
-{
-    (before * 31 + value % 65536) % 1000003
-}
 
 // A sample as a number from 0 on.
 fn raised(sample: i16) -> u64 {
@@ -22,8 +13,8 @@ fn all_samples() {
     let mut back: u64 = 0;
     for bits in 0u32..65536 {
         let sample = samples::from_bits(bits as u16);
-        signed = mixed(signed, raised(sample));
-        back = mixed(back, samples::to_bits(sample) as u64);
+        signed = show::mixed(signed, raised(sample));
+        back = show::mixed(back, samples::to_bits(sample) as u64);
     }
     show::word(b"all samples ");
     show::number(signed);
@@ -35,7 +26,7 @@ fn all_samples() {
 fn all_eights() {
     let mut number: u64 = 0;
     for value in 0u32..256 {
-        number = mixed(number, raised(samples::from_eight(value as u8)));
+        number = show::mixed(number, raised(samples::from_eight(value as u8)));
     }
     show::word(b"all values of 8 bits ");
     show::number(number);

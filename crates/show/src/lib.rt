@@ -1,6 +1,7 @@
 // What the programs print on standard output: words, numbers and bytes. A program puts a line
 // together of these, one fact to a line.
 use libc::STDOUT_FILENO;
+ghost use Prim.Native.Nat.{_<_};
 
 // Words, as they stand.
 pub fn word(text: &[u8]) {
@@ -41,6 +42,26 @@ pub fn bytes(values: &[u8]) {
         io::print_hex(STDOUT_FILENO, wide(values[i]), 2);
         i += 1;
     }
+}
+
+// One number more, mixed into those before it, where they are too many to print. 1,000,003 is a
+// prime.
+pub fn mixed(before: u64, value: u64) -> u64
+    requires { ⌜ before < 1000003 ⌝ }
+    ensures { λ r. ⌜ r < 1000003 ⌝ }
+{
+    (before * 31 + value % 65536) % 1000003
+}
+
+// A number mixed of bytes.
+pub fn mixed_bytes(values: &[u8]) -> u64 {
+    let mut mix: u64 = 0;
+    let mut i = 0;
+    while i < values.len() {
+        mix = mixed(mix, wide(values[i]));
+        i += 1;
+    }
+    mix
 }
 
 // Samples in decimal digits, each after a blank.

@@ -69,13 +69,13 @@ module _ {A : Type 0} {many : ℕ → List A} {entry : ℕ → A} {n i : ℕ} {l
       w .same ∙ ap many e
 
 module _ (s : List ℕ) {n : ℕ} where
-  pub cues-begin : Listed (cuesIn s) (λ k. cueAt s (4 + 24 * k)) n 0 (replicate 64 noCue)
+  pub cues-begin : {list : List Cue} → list ≡ replicate 64 noCue → Listed (cuesIn s) (λ k. cueAt s (4 + 24 * k)) n 0 list
   unfolding cuesIn
-  cues-begin = record { upto = omega arith; more = λ k. refl; same = refl }
+  cues-begin e = record { upto = omega arith; more = λ k. refl; same = e }
 
-  pub plays-begin : Listed (playsIn s) (λ k. playAt s (4 + 12 * k)) n 0 (replicate 64 noPlay)
+  pub plays-begin : {list : List Play} → list ≡ replicate 64 noPlay → Listed (playsIn s) (λ k. playAt s (4 + 12 * k)) n 0 list
   unfolding playsIn
-  plays-begin = record { upto = omega arith; more = λ k. refl; same = refl }
+  plays-begin e = record { upto = omega arith; more = λ k. refl; same = e }
 
   pub cues-end : {i : ℕ} {entry : ℕ → Cue} {list : List Cue} → Listed (cuesIn s) entry n i list → n ≤ i → list ≡ cuesIn s n
   cues-end w h = list-ends w h

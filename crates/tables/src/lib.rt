@@ -1,16 +1,15 @@
 // What the chunks `cue ` and `plst` say, and the rules that they must keep.
 //
-// What a chunk says is a total value of its bytes. What it must keep is split in two: its form, of
-// the bytes alone, and its rule, of the value; a writer needs the rule and not the form.
+// As in `formats`, a chunk has a value, a form and a rule.
 use codes::Code;
 use units::Donation;
 use units::Frames;
 ghost use mathlib.Core.Path.{_≡_};
 ghost use mathlib.Core.List.{map};
 ghost use Prim.Native.Nat.{_+_, _*_, _≤_};
-ghost use lib.ListN.{length};
-ghost use Rattle.tables.specs.Cues.{cueAt, plainCue, cuesIn, cuesOf, cuesForm, nameOf, placeOf, cuesRule};
-ghost use Rattle.tables.specs.Plays.{playAt, playsIn, playsOf, playsForm, playable, allPlayable, playsRule};
+ghost use lib.ListN.{length, replicate};
+ghost use Rattle.tables.specs.Cues.{noCue, cueAt, plainCue, cuesIn, cuesOf, cuesForm, nameOf, placeOf, cuesRule};
+ghost use Rattle.tables.specs.Plays.{noPlay, playAt, playsIn, playsOf, playsForm, playable, allPlayable, playsRule};
 ghost use Rattle.tables.specs.Tables.{held};
 
 // The most entries that a table may have.
@@ -69,17 +68,24 @@ fn cue_at(bytes: &[u8], at: usize) -> Cue
     }
 }
 
-// The first n cue points, and zero past them.
-fn cues_in(bytes: &[u8], n: usize) -> [Cue; 64]
-    requires { ⌜ n ≤ 64 ⌝ }
-    ensures { λ r. ⌜ r ≡ cuesIn (now (bytes .entry)) n ⌝ }
+// Room for cues, all zero.
+pub fn no_cues() -> [Cue; 64]
+    ensures { λ r. ⌜ r ≡ replicate 64 noCue ⌝ }
 {
     let none = Cue {
         name: Donation(0),
         position: Frames(0),
         place: Frames(0),
     };
-    let mut list = [none; 64];
+    [none; 64]
+}
+
+// The first n cue points, and zero past them.
+fn cues_in(bytes: &[u8], n: usize) -> [Cue; 64]
+    requires { ⌜ n ≤ 64 ⌝ }
+    ensures { λ r. ⌜ r ≡ cuesIn (now (bytes .entry)) n ⌝ }
+{
+    let mut list = no_cues();
     let mut i = 0;
     while i < n {
         list[i] = cue_at(bytes, 4 + 24 * i);
@@ -142,7 +148,7 @@ pub fn cues_form(bytes: &[u8]) -> bool
 }
 
 // The names of cues, as plain numbers.
-pub fn names_of(list: [Cue; 64]) -> [u32; 64]
+fn names_of(list: [Cue; 64]) -> [u32; 64]
     ensures { λ r. ⌜ r ≡ map nameOf list ⌝ }
 {
     let mut names = [0u32; 64];
@@ -156,7 +162,7 @@ pub fn names_of(list: [Cue; 64]) -> [u32; 64]
 }
 
 // The places of cues, as plain numbers.
-pub fn places_of(list: [Cue; 64]) -> [u32; 64]
+fn places_of(list: [Cue; 64]) -> [u32; 64]
     ensures { λ r. ⌜ r ≡ map placeOf list ⌝ }
 {
     let mut places = [0u32; 64];
@@ -204,17 +210,24 @@ fn play_at(bytes: &[u8], at: usize) -> Play
     }
 }
 
-// The first n playlist entries, and zero past them.
-fn plays_in(bytes: &[u8], n: usize) -> [Play; 64]
-    requires { ⌜ n ≤ 64 ⌝ }
-    ensures { λ r. ⌜ r ≡ playsIn (now (bytes .entry)) n ⌝ }
+// Room for playlist entries, all zero.
+pub fn no_plays() -> [Play; 64]
+    ensures { λ r. ⌜ r ≡ replicate 64 noPlay ⌝ }
 {
     let none = Play {
         name: Donation(0),
         length: Frames(0),
         times: 0,
     };
-    let mut list = [none; 64];
+    [none; 64]
+}
+
+// The first n playlist entries, and zero past them.
+fn plays_in(bytes: &[u8], n: usize) -> [Play; 64]
+    requires { ⌜ n ≤ 64 ⌝ }
+    ensures { λ r. ⌜ r ≡ playsIn (now (bytes .entry)) n ⌝ }
+{
+    let mut list = no_plays();
     let mut i = 0;
     while i < n {
         list[i] = play_at(bytes, 4 + 12 * i);

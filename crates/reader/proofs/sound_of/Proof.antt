@@ -1,14 +1,11 @@
--- Refused, nothing; else the part that the directory names.
+-- The part that stands at the sound's spot.
 use borrow.Author.Needs.{needs}
-use Rattle.reader.proofs.Laws.{whole}
+use Rattle.reader.proofs.Demands.{sound-placed}
 use Rattle.reader.proofs.sound_of.Statement.{statement}
 use Rattle.reader.proofs.sound_of.Tie as tie
 
 pub sound-of-spec : {M : Type 1} → statement M
 sound-of-spec =
     tie.close
-    (tie.spec (λ c κs. search (needs, whole)) (λ c. search (needs, whole)) (λ c. search (needs, whole))
-    (λ c. search (needs, whole)) (λ c. search (needs, whole)) (λ c κs. search (needs, whole))
-    (λ c. search (needs, whole)) (λ c. search (needs, whole)) (λ c. search (needs, whole))
-    (λ c. search (needs, whole)) (λ c. search (needs, whole)) (λ c κs. search (needs, whole))
-    (λ c. search (needs, whole)))
+    (tie.spec (λ c κs. search (needs, sound-placed)) (λ c. search (needs, sound-placed))
+    (λ c κs. search (needs, sound-placed)) (λ c. search (needs, sound-placed)))

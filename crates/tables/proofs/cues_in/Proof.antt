@@ -1,6 +1,6 @@
 -- The first i cue points are in the list; every turn puts in one more.
-use Prim.Native.Nat.{_-_, _+_, _*_}
 use borrow.Author.Needs.{needs}
+use Prim.Native.Nat.{_-_, _+_, _*_}
 use Rattle.tables.specs.Cues.{cueAt, cuesIn}
 use Rattle.tables.proofs.Entries.{Listed, listing}
 use Rattle.tables.proofs.cues_in.Statement.{statement}
@@ -15,6 +15,7 @@ abbrev μ-loop : tie.MeasureT-loop
 pub cues-in-spec : {M : Type 1} → statement M
 cues-in-spec =
     tie.close
-    (tie.spec Inv-loop μ-loop (λ c. search (needs, listing)) (λ c. search needs) (λ c. search needs)
-    (λ c κs. search needs) (λ c. search needs) (λ c. search needs) (λ c. search needs) (λ c. search needs)
-    (λ c. search (needs, listing)) (λ c. search (needs, listing)))
+    (tie.spec Inv-loop μ-loop (λ c κs. search needs) (λ c. search (needs, listing))
+    (λ c. search (needs, listing)) (λ c. search (needs, listing)) (λ c κs. search needs)
+    (λ c. search (needs, listing)) (λ c. search (needs, listing)) (λ c. search (needs, listing))
+    (λ c. search (needs, listing)) (λ c. search (needs, listing)) (λ c. search (needs, listing)))

@@ -7,6 +7,6 @@ use Rattle.tables.proofs.playable_entry.Tie as tie
 pub playable-entry-spec : {M : Type 1} → statement M
 playable-entry-spec =
     tie.close
-    (tie.spec (λ c κs. search needs) (λ c. search (needs, playing)) (λ c. search needs) (λ c. search (needs, playing))
-    (λ c. search needs) (λ c. search needs) (λ c. search (needs, playing)) (λ c. search needs)
-    (λ c. search (needs, playing)) (λ c. search (needs, playing)) (λ c. search (needs, playing)))
+    (tie.spec (λ c κs. search needs) (λ c. search (needs, playing)) (λ c. search needs)
+    (λ c. search (needs, playing)) (λ c. search needs) (λ c. search needs) (λ c. search (needs, playing))
+    (λ c. search needs) (λ c. search (needs, playing)) (λ c. search (needs, playing)) (λ c. search (needs, playing)))
