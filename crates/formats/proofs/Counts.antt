@@ -18,7 +18,7 @@ use Rattle.units.specs.declared.BytePlace.{BytePlace}
 use Rattle.units.specs.declared.Frames.{Frames}
 use Rattle.formats.specs.declared.Format.{Format}
 use Rattle.formats.specs.Frames.{wholeBlocks, blocksIn, framesOf, factForm, needsFact, countFits, framesRule}
-use Rattle.formats.proofs.Forms.{tests}
+use Rattle.little.proofs.Tests.{tests}
 
 -- ---- whole blocks
 module _ (f : Format) (n : BytePlace) where

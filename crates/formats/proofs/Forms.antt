@@ -9,13 +9,11 @@ use lib.Dec.{T, leb, eqb, leb→le}
 use lib.ListN.{length}
 use mir.Syntax.{Width}
 use mir.Val.{Fits, bits}
-use borrow.Author.Tests.{lt-ltb, le-ltb, lt-leb, le-leb, eq-eqb, ne-eqb, not-true, not-false}
+use borrow.Author.Tests.{not-true, not-false}
 use Rattle.little.specs.Numbers.{numberAt}
+use Rattle.little.proofs.Tests.{tests}
 use Rattle.formats.specs.declared.Format.{Format}
 use Rattle.formats.specs.Format.{samplesIn, formatOf, extended, average, pairsForm, formatForm}
-
--- a test's answer, from what is known of the numbers
-pub ruleset tests = (lt-ltb, le-ltb, lt-leb, le-leb, eq-eqb, ne-eqb)
 
 -- a product fits where the product of what bounds its factors does
 pub product-fits : {w : Width} {a b m n : ℕ} → a < m → b < n → T (leb (m * n) (2 ^ bits w)) → Fits w (a * b)

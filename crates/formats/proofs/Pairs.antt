@@ -15,7 +15,7 @@ use Rattle.lists.proofs.Laws.{Holding, hold-begins, hold-ends, hold-fails, hold
 use Rattle.samples.specs.Sound.{bitsOf}
 use Rattle.samples.proofs.Signed.{back}
 use Rattle.formats.specs.Format.{pairs, pairAt, pairsForm}
-use Rattle.formats.proofs.Forms.{tests}
+use Rattle.little.proofs.Tests.{tests}
 
 -- ---- one pair
 bits : {z : ℤ} {b : ℕ} → SFits w16 z → b ≡ bitsOf (back w16 z) → b ≡ bitsOf z

@@ -11,7 +11,8 @@ use mir.Facts.{and-yes}
 use borrow.Author.Tests.{not-true, not-false}
 use Rattle.formats.specs.declared.Format.{Format}
 use Rattle.formats.specs.Format.{shared, pcmRule, blocked, imaRule, microsoftRule, formatRule}
-use Rattle.formats.proofs.Forms.{tests, product-fits}
+use Rattle.little.proofs.Tests.{tests}
+use Rattle.formats.proofs.Forms.{product-fits}
 
 -- channels and rate
 module _ (f : Format) where

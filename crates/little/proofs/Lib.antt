@@ -1,2 +1,3 @@
 pub mod Filling
 pub mod Reading
+pub mod Tests

@@ -6,7 +6,6 @@ use libc::STDIN_FILENO;
 use riff::Spot;
 use tables::Cue;
 use tables::Cues;
-use units::Verdict;
 ghost use Prim.Native.Nat.{_≤_, _<_};
 ghost use lib.ListN.{length};
 

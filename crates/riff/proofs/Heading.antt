@@ -4,8 +4,9 @@ use mathlib.Core.Bool.{Bool, true, false}
 use mathlib.Core.List.{List}
 use Prim.Native.Nat.{ℕ, _+_, _%_, _≤_, _<_}
 use lib.ListN.{length}
-use borrow.Author.Tests.{lt-ltb, le-ltb, eq-eqb, ne-eqb, not-true, not-false}
+use borrow.Author.Tests.{not-true, not-false}
 use Rattle.little.specs.Numbers.{numberAt}
+use Rattle.little.proofs.Tests.{tests}
 use Rattle.codes.specs.Codes.{isAt}
 use Rattle.codes.specs.declared.Code.the-variants as code
 use Rattle.units.specs.declared.Refusal.the-variants.{LengthOutOfRange, NotWave, RiffSizeWrong}
@@ -15,54 +16,35 @@ use Rattle.riff.specs.Chunks.{headVerdict}
 module _ (s : List ℕ) where
   pub head-short : length s < 12 → Refused LengthOutOfRange ≡ headVerdict s
   unfolding headVerdict
-  head-short h = simp (lt-ltb (length s) 12 h)
+  head-short h = simp tests
 
   module _ (h : 12 ≤ length s) where
     pub head-long : 1073741824 < length s → Refused LengthOutOfRange ≡ headVerdict s
     unfolding headVerdict
-    head-long g = simp (le-ltb (length s) 12 h, lt-ltb 1073741824 (length s) g)
+    head-long g = simp tests
 
     module _ (g : length s ≤ 1073741824) {a : Bool} (e : a ≡ isAt s 0 code.Riff) where
       pub head-no-riff : a ≡ false → Refused NotWave ≡ headVerdict s
       unfolding headVerdict
-      head-no-riff t = simp (le-ltb (length s) 12 h, le-ltb 1073741824 (length s) g, sym e ∙ t)
+      head-no-riff t = simp (tests, sym e ∙ t)
 
       module _ (t : a ≡ true) {b : Bool} (f : b ≡ isAt s 8 code.Wave) where
         pub head-no-wave : b ≡ false → Refused NotWave ≡ headVerdict s
         unfolding headVerdict
-        head-no-wave u = simp (le-ltb (length s) 12 h, le-ltb 1073741824 (length s) g, sym e ∙ t, sym f ∙ u)
+        head-no-wave u = simp (tests, sym e ∙ t, sym f ∙ u)
 
         module _ (u : b ≡ true) {n : ℕ} (v : n ≡ numberAt 4 s 4) where
           pub head-odd : (n % 2 ≡ 0 → ⊥) → Refused RiffSizeWrong ≡ headVerdict s
           unfolding headVerdict
-          head-odd o =
-              simp (le-ltb (length s) 12 h, le-ltb 1073741824 (length s) g, sym e ∙ t, sym f ∙ u, ← v, ne-eqb (n % 2) 0 o)
+          head-odd o = simp (tests, sym e ∙ t, sym f ∙ u, ← v)
 
           module _ (o : n % 2 ≡ 0) where
             pub head-other : (8 + n ≡ length s → ⊥) → Refused RiffSizeWrong ≡ headVerdict s
             unfolding headVerdict
-            head-other l =
-                simp (
-                  le-ltb (length s) 12 h,
-                  le-ltb 1073741824 (length s) g,
-                  sym e ∙ t,
-                  sym f ∙ u,
-                  ← v,
-                  eq-eqb (n % 2) 0 o,
-                  ne-eqb (8 + n) (length s) l,
-                )
+            head-other l = simp (tests, sym e ∙ t, sym f ∙ u, ← v)
 
             pub head-right : 8 + n ≡ length s → Accepted ≡ headVerdict s
             unfolding headVerdict
-            head-right l =
-                simp (
-                  le-ltb (length s) 12 h,
-                  le-ltb 1073741824 (length s) g,
-                  sym e ∙ t,
-                  sym f ∙ u,
-                  ← v,
-                  eq-eqb (n % 2) 0 o,
-                  eq-eqb (8 + n) (length s) l,
-                )
+            head-right l = simp (tests, sym e ∙ t, sym f ∙ u, ← v)
 
 pub ruleset heading = (head-short, head-long, head-no-riff, head-no-wave, head-odd, head-other, head-right, not-true, not-false)

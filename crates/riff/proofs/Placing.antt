@@ -5,8 +5,9 @@ use mathlib.Core.List.{List}
 use Prim.Native.Nat.{ℕ, _+_, _-_, _%_, _≤_, _<_}
 use native.Mathlib.Omega.{arith}
 use lib.ListN.{length}
-use borrow.Author.Tests.{lt-ltb, le-ltb, le-leb, lt-leb}
+use borrow.Author.Tests.{lt-ltb, le-ltb}
 use Rattle.little.specs.Numbers.{numberAt}
+use Rattle.little.proofs.Tests.{tests}
 use Rattle.codes.specs.Codes.{isAt}
 use Rattle.codes.specs.declared.Code.the-variants as code
 use Rattle.units.specs.declared.BytePlace.{BytePlace}
@@ -63,7 +64,7 @@ pub ruleset kinds = (kind-format, kind-sound, kind-fact, kind-cues, kind-plays, 
 module _ (s : List ℕ) (at : BytePlace) where
   short : length s < at .0 + 8 → Refused ChunkPastTheEnd ≡ placeAt s at
   unfolding placeAt
-  short h = simp (lt-ltb (length s) (at .0 + 8) h)
+  short h = simp tests
 
   pub place-none : length s < 8 → Refused ChunkPastTheEnd ≡ placeAt s at
   place-none h = short (omega arith)
@@ -94,11 +95,11 @@ refused-by step e = sym (ap refusalOf e)
 module _ (s : List ℕ) (p : Place) where
   pub waves-short : p .size .0 < 4 → false ≡ startsAsWaves s p
   unfolding startsAsWaves
-  waves-short h = simp (lt-leb 4 (p .size .0) h)
+  waves-short h = simp tests
 
   pub waves-start : {r : Bool} → 4 ≤ p .size .0 → r ≡ isAt s (p .start .0) code.WaveList → r ≡ startsAsWaves s p
   unfolding startsAsWaves
-  waves-start h e = simp (le-leb 4 (p .size .0) h, e)
+  waves-start h e = simp (tests, e)
 
 pub ruleset waves = (waves-short, waves-start)
 

@@ -18,5 +18,5 @@ all-differ-spec =
     (tie.spec Inv-loop μ-loop (λ c. search (needs, differing)) (λ c. search (needs, differing)) (λ c. search (needs, differing))
     (λ c. search (needs, differing)) (λ c. search (needs, differing)) (λ c. search (needs, differing))
     (λ c. search (needs, differing)) (λ c. search (needs, differing)) (λ c. search (needs, differing))
-    (λ c κs. search (needs, differing)) (λ c. search (needs, differing)) (λ c. search (needs, differing))
+    (λ c κs. search needs) (λ c. search (needs, differing)) (λ c. search (needs, differing))
     (λ c. search (needs, differing)) (λ c. search (needs, differing)) (λ c. search (needs, differing)))

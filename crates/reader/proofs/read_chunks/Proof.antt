@@ -7,6 +7,5 @@ use Rattle.reader.proofs.read_chunks.Tie as tie
 pub read-chunks-spec : {M : Type 1} → statement M
 read-chunks-spec =
     tie.close
-    (tie.spec (λ c κs. search (needs, chunks)) (λ c κs. search (needs, chunks)) (λ c. search (needs, chunks))
-    (λ c κs. search (needs, chunks)) (λ c κs. search (needs, chunks)) (λ c. search (needs, chunks))
-    (λ c κs. search (needs, chunks)) (λ c. search (needs, chunks)))
+    (tie.spec (λ c κs. search needs) (λ c κs. search needs) (λ c. search (needs, chunks)) (λ c κs. search needs)
+    (λ c κs. search needs) (λ c. search (needs, chunks)) (λ c κs. search needs) (λ c. search (needs, chunks)))

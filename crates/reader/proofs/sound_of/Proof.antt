@@ -7,5 +7,5 @@ use Rattle.reader.proofs.sound_of.Tie as tie
 pub sound-of-spec : {M : Type 1} → statement M
 sound-of-spec =
     tie.close
-    (tie.spec (λ c κs. search (needs, sound-placed)) (λ c. search (needs, sound-placed))
-    (λ c κs. search (needs, sound-placed)) (λ c. search (needs, sound-placed)))
+    (tie.spec (λ c κs. search needs) (λ c. search (needs, sound-placed)) (λ c κs. search needs)
+    (λ c. search (needs, sound-placed)))

@@ -7,5 +7,5 @@ use Rattle.riff.proofs.chunks.Tie as tie
 pub chunks-spec : {M : Type 1} → statement M
 chunks-spec =
     tie.close
-    (tie.spec (λ c κs. search (needs, opening)) (λ c. search (needs, opening)) (λ c κs. search (needs, opening))
+    (tie.spec (λ c κs. search needs) (λ c. search (needs, opening)) (λ c κs. search needs)
     (λ c. search (needs, opening)) (λ c. search (needs, opening)) (λ c. search (needs, opening)))

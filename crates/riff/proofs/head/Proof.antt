@@ -7,7 +7,7 @@ use Rattle.riff.proofs.head.Tie as tie
 pub head-spec : {M : Type 1} → statement M
 head-spec =
     tie.close
-    (tie.spec (λ c. search (needs, heading)) (λ c. search (needs, heading)) (λ c κs. search (needs, heading))
-    (λ c. search (needs, heading)) (λ c κs. search (needs, heading)) (λ c. search (needs, heading))
-    (λ c κs. search (needs, heading)) (λ c. search (needs, heading)) (λ c. search (needs, heading))
-    (λ c. search (needs, heading)) (λ c. search (needs, heading)) (λ c. search (needs, heading)))
+    (tie.spec (λ c. search (needs, heading)) (λ c. search (needs, heading)) (λ c κs. search needs)
+    (λ c. search (needs, heading)) (λ c κs. search needs) (λ c. search (needs, heading)) (λ c κs. search needs)
+    (λ c. search (needs, heading)) (λ c. search (needs, heading)) (λ c. search (needs, heading))
+    (λ c. search (needs, heading)) (λ c. search (needs, heading)))

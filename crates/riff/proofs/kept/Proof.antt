@@ -7,10 +7,9 @@ use Rattle.riff.proofs.kept.Tie as tie
 pub kept-spec : {M : Type 1} → statement M
 kept-spec =
     tie.close
-    (tie.spec (λ c. search (needs, kept-by)) (λ c κs. search (needs, kept-by)) (λ c. search (needs, kept-by))
-    (λ c κs. search (needs, kept-by)) (λ c. search (needs, kept-by)) (λ c κs. search (needs, kept-by))
-    (λ c. search (needs, kept-by)) (λ c κs. search (needs, kept-by)) (λ c. search (needs, kept-by))
-    (λ c κs. search (needs, kept-by)) (λ c. search (needs, kept-by)) (λ c. search (needs, kept-by))
+    (tie.spec (λ c. search (needs, kept-by)) (λ c κs. search needs) (λ c. search (needs, kept-by))
+    (λ c κs. search needs) (λ c. search (needs, kept-by)) (λ c κs. search needs) (λ c. search (needs, kept-by))
+    (λ c κs. search needs) (λ c. search (needs, kept-by)) (λ c κs. search needs) (λ c. search (needs, kept-by))
     (λ c. search (needs, kept-by)) (λ c. search (needs, kept-by)) (λ c. search (needs, kept-by))
     (λ c. search (needs, kept-by)) (λ c. search (needs, kept-by)) (λ c. search (needs, kept-by))
-    (λ c. search (needs, kept-by)))
+    (λ c. search (needs, kept-by)) (λ c. search (needs, kept-by)))

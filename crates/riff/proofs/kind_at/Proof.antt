@@ -7,8 +7,7 @@ use Rattle.riff.proofs.kind_at.Tie as tie
 pub kind-at-spec : {M : Type 1} → statement M
 kind-at-spec =
     tie.close
-    (tie.spec (λ c κs. search (needs, kinds)) (λ c. search (needs, kinds)) (λ c κs. search (needs, kinds))
-    (λ c. search (needs, kinds)) (λ c κs. search (needs, kinds)) (λ c. search (needs, kinds))
-    (λ c κs. search (needs, kinds)) (λ c. search (needs, kinds)) (λ c κs. search (needs, kinds))
-    (λ c. search (needs, kinds)) (λ c κs. search (needs, kinds)) (λ c. search (needs, kinds))
+    (tie.spec (λ c κs. search needs) (λ c. search (needs, kinds)) (λ c κs. search needs) (λ c. search (needs, kinds))
+    (λ c κs. search needs) (λ c. search (needs, kinds)) (λ c κs. search needs) (λ c. search (needs, kinds))
+    (λ c κs. search needs) (λ c. search (needs, kinds)) (λ c κs. search needs) (λ c. search (needs, kinds))
     (λ c. search (needs, kinds)))

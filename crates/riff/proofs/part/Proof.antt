@@ -7,5 +7,5 @@ use Rattle.riff.proofs.part.Tie as tie
 pub part-spec : {M : Type 1} → statement M
 part-spec =
     tie.close
-    (tie.spec (λ c. search (needs, part-there)) (λ c κs. search (needs, part-there))
-    (λ c. search (needs, part-there)) (λ c. search (needs, part-there)) (λ c. search (needs, part-there)))
+    (tie.spec (λ c. search (needs, part-there)) (λ c κs. search needs) (λ c. search (needs, part-there))
+    (λ c. search (needs, part-there)) (λ c. search (needs, part-there)))

@@ -8,7 +8,7 @@ pub place-at-spec : {M : Type 1} → statement M
 place-at-spec =
     tie.close
     (tie.spec (λ c. search (needs, placing)) (λ c. search (needs, placing)) (λ c. search (needs, placing))
-    (λ c. search (needs, placing)) (λ c κs. search (needs, placing)) (λ c. search (needs, placing))
+    (λ c. search (needs, placing)) (λ c κs. search needs) (λ c. search (needs, placing))
     (λ c. search (needs, placing)) (λ c. search (needs, placing)) (λ c. search (needs, placing))
-    (λ c. search (needs, placing)) (λ c κs. search (needs, placing)) (λ c. search (needs, placing))
+    (λ c. search (needs, placing)) (λ c κs. search needs) (λ c. search (needs, placing))
     (λ c. search (needs, placing)))

@@ -7,4 +7,4 @@ use Rattle.riff.proofs.starts_as_waves.Tie as tie
 pub starts-as-waves-spec : {M : Type 1} → statement M
 starts-as-waves-spec =
     tie.close
-    (tie.spec (λ c. search (needs, waves)) (λ c κs. search (needs, waves)) (λ c. search (needs, waves)))
+    (tie.spec (λ c. search (needs, waves)) (λ c κs. search needs) (λ c. search (needs, waves)))

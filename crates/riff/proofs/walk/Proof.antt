@@ -15,7 +15,7 @@ abbrev μ-loop : tie.MeasureT-loop
 pub walk-spec : {M : Type 1} → statement M
 walk-spec =
     tie.close
-    (tie.spec Inv-loop μ-loop (λ c κs. search (needs, walking)) (λ c. search (needs, walking))
-    (λ c κs. search (needs, walking)) (λ c. search (needs, walking)) (λ c. search (needs, walking))
-    (λ c κs. search (needs, walking)) (λ c. search (needs, walking)) (λ c κs. search (needs, walking))
-    (λ c. search (needs, walking)) (λ c. search (needs, walking)) (λ c. search (needs, walking)))
+    (tie.spec Inv-loop μ-loop (λ c κs. search needs) (λ c. search (needs, walking)) (λ c κs. search needs)
+    (λ c. search (needs, walking)) (λ c. search (needs, walking)) (λ c κs. search needs)
+    (λ c. search (needs, walking)) (λ c κs. search needs) (λ c. search (needs, walking))
+    (λ c. search (needs, walking)) (λ c. search (needs, walking)))

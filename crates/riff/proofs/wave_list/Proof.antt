@@ -9,6 +9,6 @@ wave-list-spec =
     tie.close
     (tie.spec (λ c. search (needs, waves-by)) (λ c. search (needs, waves-by)) (λ c. search (needs, waves-by))
     (λ c. search (needs, waves-by)) (λ c. search (needs, waves-by)) (λ c. search (needs, waves-by))
-    (λ c κs. search (needs, waves-by)) (λ c. search (needs, waves-by)) (λ c. search (needs, waves-by))
+    (λ c κs. search needs) (λ c. search (needs, waves-by)) (λ c. search (needs, waves-by))
     (λ c. search (needs, waves-by)) (λ c. search (needs, waves-by)) (λ c. search (needs, waves-by))
     (λ c. search (needs, waves-by)) (λ c. search (needs, waves-by)) (λ c. search (needs, waves-by)))

@@ -7,5 +7,5 @@ use Rattle.rules.proofs.blank_record.Tie as tie
 pub blank-record-spec : {M : Type 1} → statement M
 blank-record-spec =
     tie.close
-    (tie.spec (λ c κs. search (needs, blank-made)) (λ c κs. search (needs, blank-made))
+    (tie.spec (λ c κs. search needs) (λ c κs. search needs)
     (λ c. search (needs, blank-made)))

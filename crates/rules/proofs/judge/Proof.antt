@@ -7,6 +7,6 @@ use Rattle.rules.proofs.judge.Tie as tie
 pub judge-spec : {M : Type 1} → statement M
 judge-spec =
     tie.close
-    (tie.spec (λ c κs. search (needs, answering)) (λ c κs. search (needs, answering))
-    (λ c. search (needs, answering)) (λ c. search (needs, answering)) (λ c κs. search (needs, answering))
+    (tie.spec (λ c κs. search needs) (λ c κs. search needs)
+    (λ c. search (needs, answering)) (λ c. search (needs, answering)) (λ c κs. search needs)
     (λ c. search (needs, answering)) (λ c. search (needs, answering)))

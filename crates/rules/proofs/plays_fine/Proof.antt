@@ -7,5 +7,5 @@ use Rattle.rules.proofs.plays_fine.Tie as tie
 pub plays-fine-spec : {M : Type 1} → statement M
 plays-fine-spec =
     tie.close
-    (tie.spec (λ c κs. search (needs, fineness)) (λ c. search (needs, fineness)) (λ c κs. search (needs, fineness))
+    (tie.spec (λ c κs. search needs) (λ c. search (needs, fineness)) (λ c κs. search needs)
     (λ c. search (needs, fineness)))

@@ -7,5 +7,5 @@ use Rattle.rules.proofs.record_of.Tie as tie
 pub record-of-spec : {M : Type 1} → statement M
 record-of-spec =
     tie.close
-    (tie.spec (λ c κs. search (needs, record-made)) (λ c κs. search (needs, record-made))
-    (λ c κs. search (needs, record-made)) (λ c κs. search (needs, record-made)) (λ c. search (needs, record-made)))
+    (tie.spec (λ c κs. search needs) (λ c κs. search needs)
+    (λ c κs. search needs) (λ c κs. search needs) (λ c. search (needs, record-made)))

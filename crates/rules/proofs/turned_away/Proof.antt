@@ -7,4 +7,4 @@ use Rattle.rules.proofs.turned_away.Tie as tie
 pub turned-away-spec : {M : Type 1} → statement M
 turned-away-spec =
     tie.close
-    (tie.spec (λ c κs. search (needs, away-made)) (λ c. search (needs, away-made)))
+    (tie.spec (λ c κs. search needs) (λ c. search (needs, away-made)))

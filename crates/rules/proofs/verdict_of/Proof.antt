@@ -7,7 +7,7 @@ use Rattle.rules.proofs.verdict_of.Tie as tie
 pub verdict-of-spec : {M : Type 1} → statement M
 verdict-of-spec =
     tie.close
-    (tie.spec (λ c κs. search (needs, judging)) (λ c. search (needs, judging)) (λ c κs. search (needs, judging))
-    (λ c. search (needs, judging)) (λ c κs. search (needs, judging)) (λ c. search (needs, judging))
-    (λ c κs. search (needs, judging)) (λ c. search (needs, judging)) (λ c κs. search (needs, judging))
+    (tie.spec (λ c κs. search needs) (λ c. search (needs, judging)) (λ c κs. search needs)
+    (λ c. search (needs, judging)) (λ c κs. search needs) (λ c. search (needs, judging))
+    (λ c κs. search needs) (λ c. search (needs, judging)) (λ c κs. search needs)
     (λ c. search (needs, judging)) (λ c. search (needs, judging)))
