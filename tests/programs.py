@@ -1,7 +1,7 @@
 #!/usr/bin/env python3
 """Runs the programs, as `rt` has built them, on input that their stored test does not have.
 
-    tests/programs.py       after `rt check` or `rt ci`
+    tests/programs.py [COUNT [SEED]]       after `rt check` or `rt ci`; COUNT generated files are read
 """
 import os
 import pathlib
@@ -10,6 +10,8 @@ import shutil
 import subprocess
 import sys
 
+import many_files
+import second_reader
 import wave_files
 
 ROOT = pathlib.Path(__file__).resolve().parent.parent
@@ -58,12 +60,36 @@ def in_pieces(file):
         return run('wave_list', stdin=slow.stdout)
 
 
-def main():
-    wrong = [(label, wrote) for label, wrote, expected in listings() if wrote != expected]
-    for label, wrote in wrong:
-        print(f'tests/programs.py: wave_list on {label} wrote {wrote!r}')
+def batches(files):
+    """The files as input of reader_vectors, as many at a time as it takes, and what it must write."""
+    data, lines = b'', []
+    for place, file in enumerate(files):
+        entry = wave_files.labelled(str(place), file)
+        if len(data) + len(entry) > 65536:
+            yield data, lines
+            data, lines = b'', []
+        listed, left_out = second_reader.listing(file)
+        data, lines = data + entry, lines + [str(place)] + listed + left_out
+    yield data, lines
+
+
+def unlike(count, seed):
+    """The lines on which reader_vectors and the second reader differ."""
+    for data, lines in batches(many_files.files(count, seed)):
+        wrote = run('reader_vectors', input=data).splitlines()
+        yield from (pair for pair in zip(wrote, lines) if pair[0] != pair[1])
+        if len(wrote) != len(lines):
+            yield f'{len(wrote)} lines', f'{len(lines)} lines'
+
+
+def main(count=20000, seed=1):
+    wrong = [f'wave_list on {label} wrote {wrote!r}' for label, wrote, expected in listings() if wrote != expected]
+    wrong += [f'reader_vectors wrote {wrote!r}, the second reader says {expected!r}'
+              for wrote, expected in unlike(int(count), int(seed))]
+    for line in wrong[:20]:
+        print(f'tests/programs.py: {line}')
     return 1 if wrong else 0
 
 
 if __name__ == '__main__':
-    sys.exit(main())
+    sys.exit(main(*sys.argv[1:3]))

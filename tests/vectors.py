@@ -11,7 +11,9 @@ import struct
 import sys
 
 import other_programs
+import second_reader
 import wave_files
+from second_reader import mixed
 
 CRATES = pathlib.Path(__file__).resolve().parent.parent / 'crates'
 
@@ -69,13 +71,6 @@ def little():
     return data, '\n'.join(lines) + '\n'
 
 
-def mixed(numbers):
-    result = 0
-    for number in numbers:
-        result = (result * 31 + number) % 1000003
-    return result
-
-
 def samples():
     borders = [0, 1, -1, 127, 128, -128, -129, 255, 256, -255, -256, -257, 12345, -12345,
                32766, 32767, -32766, -32767, -32768, 4660]
@@ -95,31 +90,15 @@ def samples():
     return data, '\n'.join(lines) + '\n'
 
 
-def left_out(file, expected):
-    """What the listing of a file leaves out, found by a walk of its own; of a refused file, all zero."""
-    chunks, at = {}, 12
-    if not expected[0].startswith('refused'):
-        while at < len(file):
-            code, size = struct.unpack_from('<4sI', file, at)
-            chunks[code] = at + 8, file[at + 8:at + 8 + size]
-            at += 8 + size + size % 2
-    layout = chunks.get(b'fmt ', (0, bytes(20)))[1]
-    tag, align = struct.unpack_from('<H', layout)[0], struct.unpack_from('<H', layout, 12)[0]
-    samples = 1 if tag == 1 else struct.unpack_from('<H', layout, 18)[0]
-    cues = chunks.get(b'cue ', (0, bytes(4)))[1]
-    positions = [struct.unpack_from('<I', cues, i + 4)[0] for i in range(4, len(cues), 24)]
-    start, sound = chunks.get(b'data', (None, b''))
-    where = '' if start is None else f' at {start}'
-    return [f'align {align} samples {samples} positions' + ''.join(f' {position}' for position in positions),
-            f'sound{where} bytes {len(sound)} mixed {mixed(sound)}']
-
-
 def reader():
-    """The files of tests/wave_files.py, one after the other."""
+    """The files of tests/wave_files.py; the table's word on each, and what the listing leaves out."""
     data, lines = b'', []
     for label, file, expected in wave_files.all_files():
-        data += struct.pack('<H', len(label)) + label.encode() + struct.pack('<I', len(file)) + file
-        lines += [label] + expected + left_out(file, expected)
+        listed, left_out = second_reader.listing(file)
+        if listed != expected:
+            raise ValueError(f'{label}: the table says {expected}, the second reader {listed}')
+        data += wave_files.labelled(label, file)
+        lines += [label] + expected + left_out
     return data, '\n'.join(lines) + '\n'
 
 

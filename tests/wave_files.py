@@ -63,6 +63,11 @@ def plst(*entries, count=None, more=b''):
     return chunk(b'plst', struct.pack('<I', len(entries) if count is None else count) + b''.join(entries) + more)
 
 
+def labelled(label, file):
+    """A file as `reader_vectors` takes it."""
+    return struct.pack('<H', len(label)) + label.encode() + struct.pack('<I', len(file)) + file
+
+
 def pcm(frames=4, bits=16, channels=1, rate=8000):
     return [f'wave tag 1 channels {channels} rate {rate} bits {bits} frames {frames}']
 

@@ -1,0 +1,118 @@
+"""A second reader of WAVE files, from document 01's text alone, to compare the library's programs with."""
+import struct
+
+PAIRS = [256, 0, 512, -256, 0, 0, 192, 64, 240, 0, 460, -208, 392, -232]
+SINGLE = (b'fmt ', b'data', b'fact', b'cue ', b'plst')
+
+
+class Refused(Exception):
+    """The number of the refusal is its first argument."""
+
+
+def demand(holds, number):
+    if not holds:
+        raise Refused(number)
+
+
+def number(data, at, size=4):
+    return int.from_bytes(data[at:at + size], 'little')
+
+
+def walk(file):
+    """Refusals 1 to 7; where each chunk's data start, and the data, by code."""
+    demand(12 <= len(file) <= 1 << 30, 1)
+    demand(file[:4] == b'RIFF' and file[8:12] == b'WAVE', 2)
+    demand(number(file, 4) % 2 == 0 and 8 + number(file, 4) == len(file), 3)
+    found, at = {}, 12
+    while at < len(file):
+        demand(at + 8 <= len(file), 4)
+        code, size = file[at:at + 4], number(file, at + 4)
+        demand(at + 8 + size + size % 2 <= len(file), 4)
+        demand(code not in SINGLE or code not in found, 5)
+        demand(code != b'data' or b'fmt ' in found, 6)
+        data = file[at + 8:at + 8 + size]
+        demand(code != b'LIST' or data[:4] != b'wavl', 7)
+        found[code] = at + 8, data
+        at += 8 + size + size % 2
+    return found
+
+
+def layout(data):
+    """Refusal 9; tag, channels, rate, bits, align, samples per block."""
+    demand(len(data) >= 16, 9)
+    tag, channels, rate, average, align, bits = struct.unpack_from('<HHIIHH', data)
+    demand(channels in (1, 2) and 1 <= rate <= 192000 and tag in (1, 2, 17), 9)
+    if tag == 1:
+        demand(bits in (8, 16) and align == channels * bits // 8 and average == rate * align, 9)
+        return tag, channels, rate, bits, align, 1
+    least, extension = (20, 2) if tag == 17 else (50, 32)
+    demand(len(data) >= least and number(data, 16, 2) >= extension and 18 + number(data, 16, 2) <= len(data), 9)
+    demand(bits == 4 and 8 * channels <= align <= 4096, 9)
+    samples = (align - 4 * channels) * 2 // channels + 1
+    if tag == 17:
+        demand(align % (4 * channels) == 0, 9)
+    else:
+        samples = (align - 7 * channels) * 2 // channels + 2
+        demand(number(data, 20, 2) == 7 and list(struct.unpack_from('<14h', data, 22)) == PAIRS, 9)
+    demand(number(data, 18, 2) == samples, 9)
+    return tag, channels, rate, bits, align, samples
+
+
+def frames(tag, sound, align, samples, fact):
+    """Refusals 10 and 11; the number of frames. fact is None where there is none."""
+    demand(len(sound) % align == 0, 10)
+    blocks = len(sound) // align
+    demand(fact is None or len(fact) >= 4, 11)
+    if tag == 1:
+        return blocks
+    demand(fact is not None, 11)
+    count = number(fact, 0)
+    demand((blocks - 1) * samples < count <= blocks * samples if blocks else count == 0, 11)
+    return count
+
+
+def entries(data, size, refusal):
+    """The entries of a table, each so many bytes."""
+    demand(len(data) >= 4 and number(data, 0) <= 64 and len(data) == 4 + size * number(data, 0), refusal)
+    return [data[at:at + size] for at in range(4, len(data), size)]
+
+
+def read(file):
+    """Format, frames, cues as (name, position, place), playlist as (name, length, times), start of the sound, sound."""
+    found = walk(file)
+    demand(b'fmt ' in found and b'data' in found, 8)
+    form = layout(found[b'fmt '][1])
+    start, sound = found[b'data']
+    length = frames(form[0], sound, form[4], form[5], found.get(b'fact', (0, None))[1])
+    cues = []
+    for entry in entries(found.get(b'cue ', (0, bytes(4)))[1], 24, 12):
+        name, position, code, chunk, block, place = struct.unpack('<II4sIII', entry)
+        demand(code == b'data' and chunk == 0 and block == 0 and place < length, 12)
+        cues.append((name, position, place))
+    places = {name: place for name, _, place in cues}
+    demand(len(places) == len(cues), 12)
+    plays = [struct.unpack('<III', entry) for entry in entries(found.get(b'plst', (0, bytes(4)))[1], 12, 13)]
+    for name, count, times in plays:
+        demand(name in places and count >= 1 and places[name] + count <= length and times >= 1, 13)
+    return form, length, cues, plays, start, sound
+
+
+def listing(file):
+    """The lines of the listing, and the lines that tell what it leaves out."""
+    try:
+        (tag, channels, rate, bits, align, samples), length, cues, plays, start, sound = read(file)
+    except Refused as refusal:
+        return [f'refused {refusal.args[0]}'], ['align 0 samples 0 positions', 'sound bytes 0 mixed 0']
+    lines = [f'wave tag {tag} channels {channels} rate {rate} bits {bits} frames {length}']
+    lines += [f'cue {name} at {place}' for name, _, place in cues]
+    lines += [f'play {name} length {count} times {times}' for name, count, times in plays]
+    return lines, [f'align {align} samples {samples} positions' + ''.join(f' {position}' for _, position, _ in cues),
+                   f'sound at {start} bytes {len(sound)} mixed {mixed(sound)}']
+
+
+def mixed(numbers):
+    """One number of many; 1,000,003 is a prime."""
+    result = 0
+    for value in numbers:
+        result = (result * 31 + value) % 1000003
+    return result
