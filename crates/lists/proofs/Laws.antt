@@ -23,9 +23,6 @@ module _ {x : ℕ} {ys : List ℕ} where
   seek-begins = record { room = omega arith; same = omega arith }
 
   module _ {i : ℕ} (w : Seeking x ys i) where
-    pub seek-room : i ≤ length ys
-    seek-room = w .room
-
     pub seek-ends : length ys ≤ i → i ≡ indexIn x ys
     unfolding indexIn
     seek-ends h =
@@ -51,7 +48,7 @@ module _ {x : ℕ} {ys : List ℕ} where
           let g = ap (λ (k : ℕ). indexIn x (drop k ys)) (add-one i) in
           record { room = omega arith; same = omega arith }
 
-pub ruleset seeking = (seek-begins, seek-room, seek-ends, seek-found, seek-next)
+pub ruleset seeking = (seek-begins, seek-ends, seek-found, seek-next)
 
 -- ---- none of the first i stands in the list again
 pub record Differing (ys : List ℕ) (i : ℕ) : Type 0 where
@@ -63,9 +60,6 @@ module _ {ys : List ℕ} where
   differ-begins = record { room = omega arith; same = refl }
 
   module _ {i : ℕ} (w : Differing ys i) where
-    pub differ-room : i ≤ length ys
-    differ-room = w .room
-
     -- what follows the number at i
     abbrev after : List ℕ
     after = take (length ys - (i + 1)) (drop (i + 1) ys)
@@ -109,7 +103,7 @@ module _ {ys : List ℕ} where
             same = ap (λ (k : ℕ). distinct (drop k ys)) (add-one i) ∙ rest-from (omega arith) {b = false} (simp (← f, le-ltb n (length after) g));
           }
 
-pub ruleset differing = (differ-begins, differ-room, differ-ends, differ-twice, differ-beside, differ-next)
+pub ruleset differing = (differ-begins, differ-ends, differ-twice, differ-beside, differ-next)
 
 -- ---- the test holds at all places below i
 pub record Holding (test : ℕ → Bool) (n i : ℕ) : Type 0 where

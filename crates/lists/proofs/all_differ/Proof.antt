@@ -15,8 +15,7 @@ abbrev μ-loop : tie.MeasureT-loop
 pub all-differ-spec : {M : Type 1} → statement M
 all-differ-spec =
     tie.close
-    (tie.spec Inv-loop μ-loop (λ c. search (needs, differing)) (λ c. search (needs, differing)) (λ c. search (needs, differing))
-    (λ c. search (needs, differing)) (λ c. search (needs, differing)) (λ c. search (needs, differing))
-    (λ c. search (needs, differing)) (λ c. search (needs, differing)) (λ c. search (needs, differing))
-    (λ c κs. search needs) (λ c. search (needs, differing)) (λ c. search (needs, differing))
-    (λ c. search (needs, differing)) (λ c. search (needs, differing)) (λ c. search (needs, differing)))
+    (tie.spec Inv-loop μ-loop (λ c. search needs) (λ c. search needs) (λ c. search needs) (λ c. search needs)
+    (λ c. search needs) (λ c. search needs) (λ c. search needs) (λ c. search needs) (λ c. search needs)
+    (λ c κs. search needs) (λ c. search (needs, differing)) (λ c. search needs) (λ c. search needs)
+    (λ c. search (needs, differing)) (λ c. search (needs, differing)))

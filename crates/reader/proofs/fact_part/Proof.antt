@@ -1,6 +1,6 @@
 -- By whether a fact is needed.
-use borrow.Author.Needs.{needs}
 use Rattle.reader.proofs.Laws.{facts}
+use borrow.Author.Needs.{needs}
 use Rattle.reader.proofs.fact_part.Statement.{statement}
 use Rattle.reader.proofs.fact_part.Tie as tie
 

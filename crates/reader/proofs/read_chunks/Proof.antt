@@ -1,6 +1,6 @@
 -- Both chunks are there, or the refusal is 8.
-use borrow.Author.Needs.{needs}
 use Rattle.reader.proofs.Laws.{chunks}
+use borrow.Author.Needs.{needs}
 use Rattle.reader.proofs.read_chunks.Statement.{statement}
 use Rattle.reader.proofs.read_chunks.Tie as tie
 

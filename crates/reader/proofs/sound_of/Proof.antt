@@ -1,11 +1,10 @@
 -- The part that stands at the sound's spot.
-use borrow.Author.Needs.{needs}
 use Rattle.reader.proofs.Demands.{sound-placed}
+use borrow.Author.Needs.{needs}
 use Rattle.reader.proofs.sound_of.Statement.{statement}
 use Rattle.reader.proofs.sound_of.Tie as tie
 
 pub sound-of-spec : {M : Type 1} → statement M
 sound-of-spec =
     tie.close
-    (tie.spec (λ c κs. search needs) (λ c. search (needs, sound-placed)) (λ c κs. search needs)
-    (λ c. search (needs, sound-placed)))
+    (tie.spec (λ c κs. search needs) (λ c. search needs) (λ c κs. search needs) (λ c. search (needs, sound-placed)))

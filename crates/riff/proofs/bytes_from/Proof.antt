@@ -1,13 +1,12 @@
 -- Past the end nothing, at the end what is left, else n bytes.
-use borrow.Author.Needs.{needs}
 use Rattle.riff.proofs.Parting.{parting}
+use borrow.Author.Needs.{needs}
 use Rattle.riff.proofs.bytes_from.Statement.{statement}
 use Rattle.riff.proofs.bytes_from.Tie as tie
 
 pub bytes-from-spec : {M : Type 1} → statement M
 bytes-from-spec =
     tie.close
-    (tie.spec (λ c. search (needs, parting)) (λ c. search (needs, parting)) (λ c. search (needs, parting))
-    (λ c. search (needs, parting)) (λ c. search (needs, parting)) (λ c. search (needs, parting))
-    (λ c. search (needs, parting)) (λ c. search (needs, parting)) (λ c. search (needs, parting))
-    (λ c. search (needs, parting)) (λ c. search (needs, parting)) (λ c. search (needs, parting)))
+    (tie.spec (λ c. search needs) (λ c. search (needs, parting)) (λ c. search needs) (λ c. search needs)
+    (λ c. search needs) (λ c. search needs) (λ c. search (needs, parting)) (λ c. search needs) (λ c. search needs)
+    (λ c. search needs) (λ c. search needs) (λ c. search (needs, parting)))

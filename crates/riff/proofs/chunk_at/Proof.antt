@@ -7,7 +7,7 @@ use Rattle.riff.proofs.chunk_at.Tie as tie
 pub chunk-at-spec : {M : Type 1} → statement M
 chunk-at-spec =
     tie.close
-    (tie.spec (λ c κs. search needs) (λ c. search (needs, stepping)) (λ c. search (needs, stepping))
-    (λ c. search (needs, stepping)) (λ c κs. search needs) (λ c κs. search needs) (λ c. search (needs, stepping))
-    (λ c κs. search needs) (λ c. search (needs, stepping)) (λ c κs. search needs) (λ c. search (needs, stepping))
+    (tie.spec (λ c κs. search needs) (λ c. search needs) (λ c. search needs) (λ c. search (needs, stepping))
+    (λ c κs. search needs) (λ c κs. search needs) (λ c. search (needs, stepping)) (λ c κs. search needs)
+    (λ c. search (needs, stepping)) (λ c κs. search needs) (λ c. search (needs, stepping))
     (λ c. search (needs, stepping)))

@@ -1,6 +1,6 @@
 -- The first code that stands there decides.
-use borrow.Author.Needs.{needs}
 use Rattle.riff.proofs.Placing.{kinds}
+use borrow.Author.Needs.{needs}
 use Rattle.riff.proofs.kind_at.Statement.{statement}
 use Rattle.riff.proofs.kind_at.Tie as tie
 

@@ -1,11 +1,11 @@
 -- By the case that the spot is.
-use borrow.Author.Needs.{needs}
 use Rattle.riff.proofs.Parting.{part-there}
+use borrow.Author.Needs.{needs}
 use Rattle.riff.proofs.part.Statement.{statement}
 use Rattle.riff.proofs.part.Tie as tie
 
 pub part-spec : {M : Type 1} → statement M
 part-spec =
     tie.close
-    (tie.spec (λ c. search (needs, part-there)) (λ c κs. search needs) (λ c. search (needs, part-there))
-    (λ c. search (needs, part-there)) (λ c. search (needs, part-there)))
+    (tie.spec (λ c. search needs) (λ c κs. search needs) (λ c. search needs) (λ c. search (needs, part-there))
+    (λ c. search needs))

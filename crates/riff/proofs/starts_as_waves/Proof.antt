@@ -1,6 +1,6 @@
 -- Four bytes are there, and they are the code.
-use borrow.Author.Needs.{needs}
 use Rattle.riff.proofs.Placing.{waves}
+use borrow.Author.Needs.{needs}
 use Rattle.riff.proofs.starts_as_waves.Statement.{statement}
 use Rattle.riff.proofs.starts_as_waves.Tie as tie
 

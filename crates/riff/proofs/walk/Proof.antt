@@ -1,8 +1,8 @@
 -- What is kept and the steps that are left make the walk; each turn takes one step.
 use Prim.Native.Nat.{_-_}
 use lib.ListN.{length}
-use borrow.Author.Needs.{needs}
 use Rattle.riff.proofs.Walking.{Rest, walking}
+use borrow.Author.Needs.{needs}
 use Rattle.riff.proofs.walk.Statement.{statement}
 use Rattle.riff.proofs.walk.Tie as tie
 
@@ -16,6 +16,6 @@ pub walk-spec : {M : Type 1} → statement M
 walk-spec =
     tie.close
     (tie.spec Inv-loop μ-loop (λ c κs. search needs) (λ c. search (needs, walking)) (λ c κs. search needs)
-    (λ c. search (needs, walking)) (λ c. search (needs, walking)) (λ c κs. search needs)
-    (λ c. search (needs, walking)) (λ c κs. search needs) (λ c. search (needs, walking))
-    (λ c. search (needs, walking)) (λ c. search (needs, walking)))
+    (λ c. search needs) (λ c. search needs) (λ c κs. search needs) (λ c. search (needs, walking))
+    (λ c κs. search needs) (λ c. search (needs, walking)) (λ c. search (needs, walking))
+    (λ c. search (needs, walking)))

@@ -1,6 +1,6 @@
 -- The form first, then the rule.
-use borrow.Author.Needs.{needs}
 use Rattle.rules.proofs.Laws.{fineness}
+use borrow.Author.Needs.{needs}
 use Rattle.rules.proofs.fact_fine.Statement.{statement}
 use Rattle.rules.proofs.fact_fine.Tie as tie
 

@@ -1,11 +1,11 @@
 -- Each field is what its chunk says.
-use borrow.Author.Needs.{needs}
 use Rattle.rules.proofs.Laws.{record-made}
+use borrow.Author.Needs.{needs}
 use Rattle.rules.proofs.record_of.Statement.{statement}
 use Rattle.rules.proofs.record_of.Tie as tie
 
 pub record-of-spec : {M : Type 1} → statement M
 record-of-spec =
     tie.close
-    (tie.spec (λ c κs. search needs) (λ c κs. search needs)
-    (λ c κs. search needs) (λ c κs. search needs) (λ c. search (needs, record-made)))
+    (tie.spec (λ c κs. search needs) (λ c κs. search needs) (λ c κs. search needs) (λ c κs. search needs)
+    (λ c. search (needs, record-made)))

@@ -1,6 +1,6 @@
 -- The record made is the blank one.
-use borrow.Author.Needs.{needs}
 use Rattle.rules.proofs.Laws.{away-made}
+use borrow.Author.Needs.{needs}
 use Rattle.rules.proofs.turned_away.Statement.{statement}
 use Rattle.rules.proofs.turned_away.Tie as tie
 

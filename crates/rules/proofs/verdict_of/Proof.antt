@@ -1,6 +1,6 @@
 -- The tests 9 to 13 in the order of the definition.
-use borrow.Author.Needs.{needs}
 use Rattle.rules.proofs.Laws.{judging}
+use borrow.Author.Needs.{needs}
 use Rattle.rules.proofs.verdict_of.Statement.{statement}
 use Rattle.rules.proofs.verdict_of.Tie as tie
 
@@ -8,6 +8,6 @@ pub verdict-of-spec : {M : Type 1} → statement M
 verdict-of-spec =
     tie.close
     (tie.spec (λ c κs. search needs) (λ c. search (needs, judging)) (λ c κs. search needs)
+    (λ c. search (needs, judging)) (λ c κs. search needs) (λ c. search (needs, judging)) (λ c κs. search needs)
     (λ c. search (needs, judging)) (λ c κs. search needs) (λ c. search (needs, judging))
-    (λ c κs. search needs) (λ c. search (needs, judging)) (λ c κs. search needs)
-    (λ c. search (needs, judging)) (λ c. search (needs, judging)))
+    (λ c. search (needs, judging)))
