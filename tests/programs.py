@@ -34,7 +34,7 @@ def long_file(n):
 
 
 def listings():
-    """Label, what wave_list was given, what it wrote and what it must write."""
+    """What wave_list was given, in words; what it wrote, and what it must write."""
     full = '\n'.join(wave_files.pcm(65536 - 44, 8)) + '\n'
     refused = 'refused 1\n'
     yield '65,536 bytes', run('wave_list', input=long_file(65536)), full

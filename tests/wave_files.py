@@ -188,6 +188,8 @@ def ima_formats():
     yield 'IMA, extension 1', wave(ima(extension=1), *one), refused(9)
     yield 'IMA, extension past the chunk', wave(ima(extension=3), *one), refused(9)
     yield 'IMA, extension 4 in 22 bytes', wave(ima(extension=4, more=b'\0\0'), *one), adpcm(17, 1)
+    yield 'IMA, extension 256 in 274 bytes', wave(ima(extension=256, more=bytes(254)), *one), adpcm(17, 1)
+    yield 'IMA, extension 258 in 20 bytes', wave(ima(extension=258), *one), refused(9)
     yield 'IMA, fmt of 19 bytes', wave(chunk(b'fmt ', ima(extension=1)[8:27]), *one), refused(9)
     yield 'IMA, no channel', wave(ima(channels=0), *one), refused(9)
 
@@ -209,8 +211,10 @@ def microsoft_formats():
     yield 'Microsoft, extension 31', wave(microsoft(extension=31), *one), refused(9)
     yield 'Microsoft, extension past the chunk', wave(microsoft(extension=33), *one), refused(9)
     yield 'Microsoft, extension 34 in 52 bytes', wave(microsoft(extension=34, more=b'\0\0'), *one), adpcm(2, 1)
+    yield 'Microsoft, extension 256 in 274 bytes', wave(microsoft(extension=256, more=bytes(224)), *one), adpcm(2, 1)
     yield 'Microsoft, fmt of 48 bytes', wave(chunk(b'fmt ', microsoft()[8:56]), *one), refused(9)
     yield 'Microsoft, six pairs counted', wave(microsoft(count=6), *one), refused(9)
+    yield 'Microsoft, 263 pairs counted', wave(microsoft(count=263), *one), refused(9)
     yield 'Microsoft, eight pairs', wave(microsoft(extension=36, count=8, pairs=PAIRS + [1, 1]), *one), refused(9)
     for at in range(14):
         other = PAIRS[:at] + [PAIRS[at] + 1] + PAIRS[at + 1:]
@@ -239,6 +243,7 @@ def frames():
     yield 'IMA, two blocks, count 10', wave(ima(), fact(10), data(16)), adpcm(17, 10)
     yield 'IMA, two blocks, count 18', wave(ima(), data(16), fact(18)), adpcm(17, 18)
     yield 'IMA, two blocks, count 19', wave(ima(), fact(19), data(16)), refused(11)
+    yield 'IMA, two blocks, count 10 and 2 to the 24th', wave(ima(), fact(10 + 2**24), data(16)), refused(11)
     yield 'IMA, two blocks, the largest count', wave(ima(), fact(2**32 - 1), data(16)), refused(11)
     yield 'IMA, no block, count 0', wave(ima(), fact(0), data(0)), adpcm(17, 0)
     yield 'IMA, no block, count 1', wave(ima(), fact(1), data(0)), refused(11)

@@ -19,9 +19,6 @@ pub record Seeking (x : ℕ) (ys : List ℕ) (i : ℕ) : Type 0 where
   pub same : i + indexIn x (drop i ys) ≡ indexIn x ys
 
 module _ {x : ℕ} {ys : List ℕ} where
-  pub seek-begins : Seeking x ys 0
-  seek-begins = record { room = omega arith; same = omega arith }
-
   module _ {i : ℕ} (w : Seeking x ys i) where
     pub seek-ends : length ys ≤ i → i ≡ indexIn x ys
     unfolding indexIn
@@ -48,7 +45,7 @@ module _ {x : ℕ} {ys : List ℕ} where
           let g = ap (λ (k : ℕ). indexIn x (drop k ys)) (add-one i) in
           record { room = omega arith; same = omega arith }
 
-pub ruleset seeking = (seek-begins, seek-ends, seek-found, seek-next)
+pub ruleset seeking = (seek-ends, seek-found, seek-next)
 
 -- ---- none of the first i stands in the list again
 pub record Differing (ys : List ℕ) (i : ℕ) : Type 0 where
@@ -56,9 +53,6 @@ pub record Differing (ys : List ℕ) (i : ℕ) : Type 0 where
   pub same : distinct (drop i ys) ≡ distinct ys
 
 module _ {ys : List ℕ} where
-  pub differ-begins : Differing ys 0
-  differ-begins = record { room = omega arith; same = refl }
-
   module _ {i : ℕ} (w : Differing ys i) where
     -- what follows the number at i
     abbrev after : List ℕ
@@ -89,7 +83,7 @@ module _ {ys : List ℕ} where
       unfolding has
       differ-twice {n} g f = rest-from (omega arith) {b = true} (simp (← f, lt-ltb n (length after) g))
 
-      -- the very next number is one that follows
+      -- the very next number is one that follows; no proof asks for it, but a program that looks at no other is refused where it is wrong
       pub differ-beside : {n : ℕ} → n < 1 → n ≡ indexIn (getD ys i 0) after → false ≡ distinct ys
       differ-beside {n} g f =
           let l : length after ≡ length ys - (i + 1) = ap length whole ∙ length-drop (suc i) ys ∙ omega arith in
@@ -103,7 +97,7 @@ module _ {ys : List ℕ} where
             same = ap (λ (k : ℕ). distinct (drop k ys)) (add-one i) ∙ rest-from (omega arith) {b = false} (simp (← f, le-ltb n (length after) g));
           }
 
-pub ruleset differing = (differ-begins, differ-ends, differ-twice, differ-beside, differ-next)
+pub ruleset differing = (differ-ends, differ-twice, differ-beside, differ-next)
 
 -- ---- the test holds at all places below i
 pub record Holding (test : ℕ → Bool) (n i : ℕ) : Type 0 where
@@ -159,4 +153,5 @@ module _ {n : ℕ} {ys : List ℕ} where
     pub below-next : i < length ys → getD ys i 0 < n → Below n ys (i + 1)
     below-next h g = record { holding = hold-next (w .holding) h refl (lt-ltb (getD ys i 0) n g) }
 
+-- with the last law, a program that lets a number reach n is refused where it is wrong
 pub ruleset below = (below-begins, below-ends, below-fails, below-next, le-of-lt)

@@ -52,15 +52,11 @@ sound-placed s f g = g ∙ ap (λ (x : Spot). partOf s x []) f ∙ placed s
 
 pub refusing : (s : List ℕ) → Refusing s
 unfolding reading soundIn
-refusing s r e = record { made = made (contentOf s) e; sound = sound (contentOf s) e }
+refusing s r e = let b = by (contentOf s) e in record { made = b .0; sound = b .1 }
   where
-    made : (c : Content) → readingOf c .verdict ≡ Refused r → readingOf c .made ≡ blank
-    made (refused x) h = refl
-    made (holds m w) h = let z : _≡_ {A = ℕ} 0 1 = cc in absurd (omega arith)
-
-    sound : (c : Content) → readingOf c .verdict ≡ Refused r → soundOf c ≡ []
-    sound (refused x) h = refl
-    sound (holds m w) h = let z : _≡_ {A = ℕ} 0 1 = cc in absurd (omega arith)
+    by : (c : Content) → readingOf c .verdict ≡ Refused r → (readingOf c .made ≡ blank) × (soundOf c ≡ [])
+    by (refused x) h = (refl, refl)
+    by (holds m w) h = let z : _≡_ {A = ℕ} 0 1 = cc in absurd (omega arith)
 
 -- ---- a file holds nothing, or the record and the sound of its directory
 module _ (P : Content → Type 0) (none : (r : Refusal) → P (refused r)) where
