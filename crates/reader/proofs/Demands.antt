@@ -12,14 +12,14 @@ use Rattle.riff.specs.declared.Directory.{Directory}
 use Rattle.riff.specs.declared.Spot.{Spot}
 use Rattle.riff.specs.declared.Walked.{Walked}
 use Rattle.riff.specs.declared.Walked.the-variants.{Whole, Stopped}
-use Rattle.units.specs.Refusals.{numberOf, verdictNumber}
+use Rattle.units.specs.Refusals.{numberOf, verdictNumber, demand}
 use Rattle.riff.specs.Chunks.{badLength, noWave, badSize, headVerdict, isThere}
 use Rattle.riff.specs.Walk.{partOf, walkOf, opened, directoryOf}
 use Rattle.tables.specs.Cues.{noCue}
 use Rattle.tables.specs.Plays.{noPlay}
 use Rattle.tables.proofs.Entries.{all-zero, cues-zero, plays-zero}
 use Rattle.rules.specs.declared.Record.{Record}
-use Rattle.rules.specs.Rules.{recordOf, demand, verdictOf, blank}
+use Rattle.rules.specs.Rules.{recordOf, verdictOf, blank}
 use Rattle.reader.specs.Content.{Content, refused, holds, taken, soundPart, cuePart, playlistPart, recordAt, verdictAt, contentAt, contentIn, contentOf, readingOf, soundOf, reading, soundIn, spotBy, soundSpot}
 use Rattle.reader.specs.Demands.{chunkNumber, Numbered, Tied, Placed, Refusing, ZeroPast}
 

@@ -1,6 +1,6 @@
 -- The record that a file's chunks make, and the verdict on them. Assumes nothing.
 use Prim.Native.Nat.{ℕ}
-use mathlib.Core.Bool.{Bool, true, false, _&&_}
+use mathlib.Core.Bool.{Bool, _&&_}
 use mathlib.Core.List.{List}
 use lib.ListN.{replicate}
 use Rattle.units.specs.declared.BytePlace.{BytePlace}
@@ -9,6 +9,7 @@ use Rattle.units.specs.declared.Refusal.{Refusal}
 use Rattle.units.specs.declared.Refusal.the-variants.{FormatWrong, NotWholeFrames, FactWrong, CuesWrong, PlaylistWrong}
 use Rattle.units.specs.declared.Verdict.{Verdict}
 use Rattle.units.specs.declared.Verdict.the-variants.{Accepted, Refused}
+use Rattle.units.specs.Refusals.{demand}
 use Rattle.formats.specs.declared.Format.{Format}
 use Rattle.formats.specs.Format.{formatOf, formatForm, formatRule}
 use Rattle.formats.specs.Frames.{wholeBlocks, framesOf, factForm, framesRule}
@@ -39,11 +40,6 @@ cuesFine cue c frames = fine (cuesForm cue) (cuesRule c frames)
 
 abbrev pub playsFine : List ℕ → Playlist → Cues → Frames → Bool
 playsFine plst p c frames = fine (playsForm plst) (playsRule p c frames)
-
--- a demand that is met, or the refusal
-abbrev pub demand : Bool → Refusal → Verdict → Verdict
-demand true r v = v
-demand false r v = Refused r
 
 -- 9 to 13 by number
 unfoldable pub verdictOf : List ℕ → BytePlace → List ℕ → List ℕ → List ℕ → Record → Verdict

@@ -156,6 +156,10 @@ hold-is {z = pos n} {a} {b} h =
 hold-is {z = negsuc n} {a} {b} h =
     by-ltb 32767 n (λ c. Is (cond c (negsuc 32767) (negsuc n)) (min (a + 32768 - b) 65535) 32768) (λ g. omega arith) (λ g. omega arith)
 
+pub hold-fits : (z : ℤ) → SFits w16 (hold z)
+hold-fits (pos n) = fits w16 (hold-is (is-pos n)) (omega arith) (omega arith)
+hold-fits (negsuc n) = fits w16 (hold-is (is-negsuc n)) (omega arith) (omega arith)
+
 module _ {z : ℤ} (f : SFits w32 z) where
   pub held-low : ltZ (back w32 z) (negsuc 32767) ≡ true → negsuc 32767 ≡ hold z
   unfolding hold

@@ -6,9 +6,9 @@ use Prim.Native.Nat.{ℕ, zero, suc, _+_, _-_, _*_, _/_, _^_, _≤_, _<_}
 use native.Mathlib.Nat.{add-mul, mul-le-mul, div-le-of-le-mul, le-refl, le-trans, le-of-lt, lt-of-lt-of-le, lt-of-le-of-lt}
 use lib.Pow.{pow-mono}
 use native.Mathlib.Omega.{arith}
-use lib.Dec.{T, leb, ltb, ltb→lt, leb→le, nleb→lt}
+use lib.Dec.{T, leb, ltb, ltb→lt, leb→le, le→leb, nleb→lt}
 use lib.IntN.{ℤ, pos, negsuc, negℤ, natAbs, subℕ, _+ℤ_, _-ℤ_, _*ℤ_}
-use lib.Signed.{ltZ, nonNeg, quotZ}
+use lib.Signed.{_≤ℤ_, leZ-yes, ltZ, nonNeg, quotZ}
 use mir.Syntax.{Width}
 use mir.Val.{SFits, Fits, toZ, ofZ, bits, hbits}
 use mir.Facts.{toZ-ofZ, toZ-pos}
@@ -120,6 +120,19 @@ not-less {a = a} {b} {c} {d} h k e = ltb-false (a + d) (c + b) (sym (is-lt h k) 
 pub not-negative : {z : ℤ} {a b : ℕ} → Is z a b → b ≤ a → T (nonNeg z)
 not-negative {z = pos n} h g = tt
 not-negative {z = negsuc n} h g = absurd (omega arith)
+
+-- and of two integers over one base
+pub is-le : {z w : ℤ} {a b c : ℕ} → Is z a c → Is w b c → a ≤ b → z ≤ℤ w
+is-le {z = pos m} {w = pos n} h k g = leZ-yes (le→leb m n (omega arith))
+is-le {z = pos m} {w = negsuc n} h k g = absurd (omega arith)
+is-le {z = negsuc m} {w = pos n} h k g = leZ-yes tt
+is-le {z = negsuc m} {w = negsuc n} h k g = leZ-yes (le→leb n m (omega arith))
+
+pub le-is : {z w : ℤ} {a b c : ℕ} → Is z a c → Is w b c → z ≤ℤ w → a ≤ b
+le-is {z = pos m} {w = pos n} h k g = omega (arith, leb→le m n (g .le))
+le-is {z = pos m} {w = negsuc n} h k g = absurd (g .le)
+le-is {z = negsuc m} {w = pos n} h k g = omega arith
+le-is {z = negsuc m} {w = negsuc n} h k g = omega (arith, leb→le n m (g .le))
 
 -- ---- a width: what fits it, what it holds, and what its bits read back as
 -- the machine holds a signed number as bits, and reads them back

@@ -1,0 +1,18 @@
+-- The header's sample, and behind it what is heard of the codes.
+use borrow.Author.Needs.{needs}
+use Rattle.blocks.proofs.Laws.{mono}
+use Rattle.blocks.proofs.mono.Statement.{statement}
+use Rattle.blocks.proofs.mono.Tie as tie
+
+pub mono-spec : {M : Type 1} → statement M
+mono-spec =
+    tie.close
+    (tie.spec
+    (λ c κs. search (needs, mono))
+    (λ c. search (needs, mono))
+    (λ c. search (needs, mono))
+    (λ c. search (needs, mono))
+    (λ c. search (needs, mono))
+    (λ c κs. search (needs, mono))
+    (λ c. search (needs, mono))
+    (λ c. search (needs, mono)))

@@ -1,0 +1,196 @@
+// An IMA block: the check of its headers, and its sound put into a lent buffer in order of the output.
+//
+// A block is four bytes of each channel in turn, first each channel's header and then its codes. A
+// byte has two codes, and so two frames of its channel; in stereo a byte of each channel has four
+// samples that follow each other in the output.
+ghost use mathlib.Core.Path.{_≡_};
+ghost use mathlib.Core.Bool.{true};
+ghost use mathlib.Core.List.{[], _∷_};
+ghost use Prim.Native.Nat.{_+_, _*_, _/_, _%_, _≤_, _<_};
+ghost use lib.ListN.{length, drop, getD};
+ghost use Rattle.little.specs.Writing.{Put};
+ghost use Rattle.lists.specs.Turns.{inTurn};
+ghost use Rattle.samples.specs.Sound.{sampleAt};
+ghost use Rattle.steps.specs.Code.{steps, decoded};
+ghost use Rattle.blocks.specs.Block.{samplesPerBlock, channelPart, headersFine, heard, framesIn};
+use steps::State;
+use steps::decode_code;
+
+// A channel after each of the two codes of a byte.
+pub struct Both {
+    pub low: State,
+    pub high: State,
+}
+
+// Whether the header of every channel holds an index in range.
+pub fn headers_fine(block: &[u8], channels: usize) -> bool
+    requires { ⌜ (1 ≤ channels) × (channels ≤ 2) × (4 * channels ≤ length (now block)) ⌝ }
+    ensures { λ r. ⌜ r ≡ headersFine channels (now (block .entry)) ⌝ }
+{
+    if 88 < block[2] {
+        return false;
+    }
+    if channels == 1 {
+        return true;
+    }
+    block[6] <= 88
+}
+
+// A channel as the header at a place says.
+fn opened_at(block: &[u8], at: usize) -> State
+    requires { ⌜ at + 4 ≤ length (now block) ⌝ }
+    ensures { λ r. ⌜ (r .last ≡ sampleAt (now (block .entry)) at) × (r .index ≡ getD (now (block .entry)) (at + 2) 0) ⌝ }
+{
+    State {
+        last: samples::sample_at(block, at),
+        index: block[at + 2] as usize,
+    }
+}
+
+// A channel through a byte, low nibble first.
+fn through(state: State, byte: u8, table: &[u16; 89]) -> Both
+    requires { ⌜ (state .index < 89) × (now table ≡ steps) ⌝ }
+    ensures { λ r. ⌜ (r .low ≡ decoded state (byte % 16))
+        × (r .high ≡ decoded (decoded state (byte % 16)) (byte / 16))
+        × (r .high .index < 89) ⌝ }
+{
+    let low = decode_code(state, (byte % 16) as u32, table);
+    let high = decode_code(low, (byte / 16) as u32, table);
+    Both {
+        low: low,
+        high: high,
+    }
+}
+
+// Puts frames of one channel at a place, from the codes behind its header.
+fn mono_codes(
+    block: &[u8],
+    frames: usize,
+    table: &[u16; 89],
+    from: State,
+    out: &mut [i16],
+    at: usize,
+)
+    requires { ⌜ (frames + 8 ≤ 2 * length (now block)) × (at + frames ≤ length (now out)) × (from .index < 89) × (now table ≡ steps) ⌝ }
+    ensures { λ _. ⌜ Put (now (out .entry)) at (inTurn 1 frames (heard from (drop 4 (now (block .entry))) ∷ [])) (now (out .exit)) ⌝ }
+{
+    let mut state = from;
+    let mut left = frames;
+    let mut to = at;
+    let mut i = 4;
+    while 2 <= left {
+        let next = through(state, block[i], table);
+        let x = next.low.last;
+        let y = next.high.last;
+        out[to] = x;
+        out[to + 1] = y;
+        state = next.high;
+        left -= 2;
+        to += 2;
+        i += 1;
+    }
+    if left == 1 {
+        let next = decode_code(state, (block[i] % 16) as u32, table);
+        let x = next.last;
+        out[to] = x;
+    }
+}
+
+// Puts frames of two channels at a place, from the codes behind their headers.
+fn stereo_codes(
+    block: &[u8],
+    frames: usize,
+    table: &[u16; 89],
+    left: State,
+    right: State,
+    out: &mut [i16],
+    at: usize,
+)
+    requires { ⌜ (frames + 8 ≤ length (now block)) × (length (now block) % 8 ≡ 0) × (at + 2 * frames ≤ length (now out))
+        × (left .index < 89) × (right .index < 89) × (now table ≡ steps) ⌝ }
+    ensures { λ _. ⌜ Put (now (out .entry)) at
+        (inTurn 1 frames (heard left (drop 4 (channelPart 2 (now (block .entry)) 0)) ∷ heard right (drop 4 (channelPart 2 (now (block .entry)) 1)) ∷ []))
+        (now (out .exit)) ⌝ }
+{
+    let mut l = left;
+    let mut r = right;
+    let mut n = frames;
+    let mut to = at;
+    let mut i = 0;
+    while 2 <= n {
+        let from = 8 + i + 4 * (i / 4);
+        let a = through(l, block[from], table);
+        let b = through(r, block[from + 4], table);
+        let x = a.low.last;
+        let y = b.low.last;
+        let z = a.high.last;
+        let w = b.high.last;
+        out[to] = x;
+        out[to + 1] = y;
+        out[to + 2] = z;
+        out[to + 3] = w;
+        l = a.high;
+        r = b.high;
+        n -= 2;
+        to += 4;
+        i += 1;
+    }
+    if n == 1 {
+        let from = 8 + i + 4 * (i / 4);
+        let a = decode_code(l, (block[from] % 16) as u32, table);
+        let b = decode_code(r, (block[from + 4] % 16) as u32, table);
+        let x = a.last;
+        let y = b.last;
+        out[to] = x;
+        out[to + 1] = y;
+    }
+}
+
+// Puts the first frames of a mono block at a place.
+fn mono(block: &[u8], frames: usize, table: &[u16; 89], out: &mut [i16], at: usize)
+    requires { ⌜ (length (now block) % 4 ≡ 0) × (4 ≤ length (now block)) × (1 ≤ frames) × (frames ≤ samplesPerBlock 1 (length (now block)))
+        × (headersFine 1 (now block) ≡ true) × (now table ≡ steps) × (at + frames ≤ length (now out)) ⌝ }
+    ensures { λ _. ⌜ Put (now (out .entry)) at (framesIn 1 frames (now (block .entry))) (now (out .exit)) ⌝ }
+{
+    let state = opened_at(block, 0);
+    let x = state.last;
+    out[at] = x;
+    mono_codes(block, frames - 1, table, state, out, at + 1);
+}
+
+// Puts the first frames of a stereo block at a place.
+fn stereo(block: &[u8], frames: usize, table: &[u16; 89], out: &mut [i16], at: usize)
+    requires { ⌜ (length (now block) % 8 ≡ 0) × (8 ≤ length (now block)) × (1 ≤ frames) × (frames ≤ samplesPerBlock 2 (length (now block)))
+        × (headersFine 2 (now block) ≡ true) × (now table ≡ steps) × (at + 2 * frames ≤ length (now out)) ⌝ }
+    ensures { λ _. ⌜ Put (now (out .entry)) at (framesIn 2 frames (now (block .entry))) (now (out .exit)) ⌝ }
+{
+    let left = opened_at(block, 0);
+    let right = opened_at(block, 4);
+    let x = left.last;
+    let y = right.last;
+    out[at] = x;
+    out[at + 1] = y;
+    stereo_codes(block, frames - 1, table, left, right, out, at + 2);
+}
+
+// Puts the first frames of a block at a place. The table of steps is lent, so that it is copied once
+// for all blocks.
+pub fn decode(
+    block: &[u8],
+    channels: usize,
+    frames: usize,
+    table: &[u16; 89],
+    out: &mut [i16],
+    at: usize,
+)
+    requires { ⌜ (1 ≤ channels) × (channels ≤ 2) × (length (now block) % (4 * channels) ≡ 0) × (4 * channels ≤ length (now block))
+        × (1 ≤ frames) × (frames ≤ samplesPerBlock channels (length (now block)))
+        × (headersFine channels (now block) ≡ true) × (now table ≡ steps) × (at + channels * frames ≤ length (now out)) ⌝ }
+    ensures { λ _. ⌜ Put (now (out .entry)) at (framesIn channels frames (now (block .entry))) (now (out .exit)) ⌝ }
+{
+    if channels == 1 {
+        mono(block, frames, table, out, at);
+        return;
+    }
+    stereo(block, frames, table, out, at);
+}

@@ -1,0 +1,225 @@
+-- Laws of lists in turn: what was put in turn is picked again, and where an element of a picked list stands. Assumes nothing.
+use mathlib.Core.Path.{_≡_, refl, sym, ap, _∙_, subst}
+use mathlib.Core.List.{List, [], _∷_, _++_, map, append-assoc, append-nil}
+use Prim.Native.Nat.{ℕ, zero, suc, _+_, _-_, _*_, _/_, _%_, _≤_, _<_}
+use native.Mathlib.Omega.{arith}
+use native.Mathlib.Nat.{mul-zero, zero-mul, mul-suc, suc-mul, add-zero, zero-add, le-trans}
+use native.Mathlib.Numerals.{add-one}
+use lib.ListN.{length, take, drop, getD, length-append, length-take, length-drop, take-append-drop, List·getD-append}
+use lib.Seq.{take-at, drop-at, drop-drop, length-take-le, take-append-le, take-append-seam, drop-append-add, take-append-add, take-nil, drop-nil, getD-take, getD-drop, getD-append-add}
+use Rattle.lists.specs.Turns.{values, joined, inTurn, picked}
+
+-- ---- all lists have m elements
+abbrev pub Long : {A : Type 0} → ℕ → List (List A) → Type 0
+Long m [] = Unit {0}
+Long m (l ∷ ls) = (length l ≡ m) × Long m ls
+
+module _ {A : Type 0} where
+  -- ---- picking goes by what stands behind a place
+  pub picked-drop : (w stride : ℕ) (s : List A) (at n : ℕ) → picked w stride s at n ≡ picked w stride (drop at s) 0 n
+  unfolding picked
+  picked-drop w stride s at zero = refl
+  picked-drop w stride s at (suc n) =
+      ap (λ (l : List A). take w (drop at s) ++ l)
+      (picked-drop w stride s (at + stride) n
+      ∙ ap (λ (l : List A). picked w stride l 0 n) (sym (drop-drop stride at s))
+      ∙ sym (picked-drop w stride (drop at s) stride n)
+      ∙ ap (λ (k : ℕ). picked w stride (drop at s) k n) (sym (zero-add stride)))
+
+  pub picked-shift : (w stride : ℕ) (p s : List A) (k at n : ℕ) → length p ≡ k → picked w stride (p ++ s) (k + at) n ≡ picked w stride s at n
+  picked-shift w stride p s k at n e =
+      picked-drop w stride (p ++ s) (k + at) n
+      ∙ ap (λ (l : List A). picked w stride l 0 n) (sym (drop-drop at k (p ++ s)) ∙ ap (drop at) (drop-at p s k e))
+      ∙ sym (picked-drop w stride s at n)
+
+  -- ---- one round: the first w elements of each list
+  round-long : (w m : ℕ) (ls : List (List A)) → Long m ls → w ≤ m → length (joined (map (take w) ls)) ≡ w * length ls
+  unfolding joined
+  round-long w m [] e h = sym (mul-zero w)
+  round-long w m (l ∷ ls) e h =
+      length-append (take w l) (joined (map (take w) ls))
+      ∙ omega (arith, length-take-le w l (le-trans h (omega (arith, e .0))), round-long w m ls (e .1) h, mul-suc w (length ls))
+
+  round-at : (w m : ℕ) (ls : List (List A)) (r : List A) (ch : ℕ) → Long m ls → w ≤ m → ch < length ls → take w (drop (w * ch) (joined (map (take w) ls) ++ r)) ≡ take w (getD ls ch [])
+  unfolding joined
+  round-at w m [] r ch e h g = absurd (omega arith)
+  round-at w m (l ∷ ls) r zero e h g =
+      ap (λ (k : ℕ). take w (drop k (take w l ++ joined (map (take w) ls) ++ r))) (mul-zero w)
+      ∙ ap (take w) (append-assoc (take w l) (joined (map (take w) ls)) r)
+      ∙ take-at (take w l) (joined (map (take w) ls) ++ r) w (length-take-le w l (le-trans h (omega (arith, e .0))))
+  round-at w m (l ∷ ls) r (suc ch) e h g =
+      let a : w * suc ch ≡ w + w * ch = omega (arith, mul-suc w ch) in
+      ap (λ (k : ℕ). take w (drop k (take w l ++ joined (map (take w) ls) ++ r))) a
+      ∙ ap (take w)
+      (sym (drop-drop (w * ch) w (take w l ++ joined (map (take w) ls) ++ r))
+      ∙ ap (drop (w * ch))
+      (ap (drop w) (append-assoc (take w l) (joined (map (take w) ls)) r)
+      ∙ drop-at (take w l) (joined (map (take w) ls) ++ r) w (length-take-le w l (le-trans h (omega (arith, e .0))))))
+      ∙ round-at w m ls r ch (e .1) h (omega arith)
+
+  drops-long : (w m : ℕ) (ls : List (List A)) → Long (m + w) ls → Long m (map (drop w) ls)
+  drops-long w m [] e = tt
+  drops-long w m (l ∷ ls) e = (omega (arith, length-drop w l, e .0), drops-long w m ls (e .1))
+
+  drops-count : (w : ℕ) (ls : List (List A)) → length (map (drop w) ls) ≡ length ls
+  drops-count w [] = refl
+  drops-count w (l ∷ ls) = ap suc (drops-count w ls)
+
+  drops-at : (w : ℕ) (ls : List (List A)) (ch : ℕ) → ch < length ls → getD (map (drop w) ls) ch [] ≡ drop w (getD ls ch [])
+  drops-at w [] ch h = absurd (omega arith)
+  drops-at w (l ∷ ls) zero h = refl
+  drops-at w (l ∷ ls) (suc ch) h = drops-at w ls ch (omega arith)
+
+  long-at : (m : ℕ) (ls : List (List A)) (ch : ℕ) → Long m ls → ch < length ls → length (getD ls ch []) ≡ m
+  long-at m [] ch e h = absurd (omega arith)
+  long-at m (l ∷ ls) zero e h = e .0
+  long-at m (l ∷ ls) (suc ch) e h = long-at m ls ch (e .1) (omega arith)
+
+  nothing : (l : List A) → length l ≡ 0 → [] ≡ l
+  nothing [] e = refl
+  nothing (x ∷ l) e = absurd (omega arith)
+
+  -- what was put in turn is picked again
+  pub picked-turn : (w n : ℕ) (ls : List (List A)) (ch : ℕ) → Long (w * n) ls → ch < length ls → picked w (w * length ls) (inTurn w n ls) (w * ch) n ≡ getD ls ch []
+  unfolding picked inTurn
+  picked-turn w zero ls ch e h = nothing (getD ls ch []) (long-at (w * 0) ls ch e h ∙ mul-zero w)
+  picked-turn w (suc n) ls ch e h =
+      let j : List A = joined (map (take w) ls) in
+      let r : List A = inTurn w n (map (drop w) ls) in
+      let e′ : Long (w * n + w) ls = subst (λ (k : ℕ). Long k ls) (mul-suc w n) e in
+      let i : w ≤ w * n + w = omega arith in
+      let a : w * ch + w * length ls ≡ w * length ls + w * ch = omega arith in
+      ap (λ (l : List A). l ++ picked w (w * length ls) (j ++ r) (w * ch + w * length ls) n) (round-at w (w * n + w) ls r ch e′ i h)
+      ∙ ap (λ (l : List A). take w (getD ls ch []) ++ l)
+      (ap (λ (k : ℕ). picked w (w * length ls) (j ++ r) k n) a
+      ∙ picked-shift w (w * length ls) j r (w * length ls) (w * ch) n (round-long w (w * n + w) ls e′ i)
+      ∙ ap (λ (k : ℕ). picked w (w * k) r (w * ch) n) (sym (drops-count w ls))
+      ∙ picked-turn w n (map (drop w) ls) ch (drops-long w (w * n) ls e′) (omega (arith, drops-count w ls))
+      ∙ drops-at w ls ch h)
+      ∙ take-append-drop w (getD ls ch [])
+
+  -- ---- one list in turn with none is that list
+  pub turn-one : (w n : ℕ) (l : List A) → length l ≡ w * n → inTurn w n (l ∷ []) ≡ l
+  unfolding inTurn joined
+  turn-one w zero l e = nothing l (e ∙ mul-zero w)
+  turn-one w (suc n) l e =
+      ap (λ (r : List A). r ++ inTurn w n (drop w l ∷ [])) (append-nil (take w l))
+      ∙ ap (λ (r : List A). take w l ++ r) (turn-one w n (drop w l) (omega (arith, length-drop w l, mul-suc w n)))
+      ∙ take-append-drop w l
+
+  -- ---- n times w elements of each list are no more than that
+  round-room : (w : ℕ) (ls : List (List A)) → length (joined (map (take w) ls)) ≤ w * length ls
+  unfolding joined
+  round-room w [] = omega arith
+  round-room w (l ∷ ls) =
+      omega (arith, length-append (take w l) (joined (map (take w) ls)), length-take w l, round-room w ls, mul-suc w (length ls))
+
+  pub turn-room : (w n : ℕ) (ls : List (List A)) → length (inTurn w n ls) ≤ w * length ls * n
+  unfolding inTurn
+  turn-room w zero ls = omega arith
+  turn-room w (suc n) ls =
+      let r = ap (λ (k : ℕ). w * k * n) (drops-count w ls) in
+      omega (
+        arith,
+        length-append (joined (map (take w) ls)) (inTurn w n (map (drop w) ls)),
+        round-room w ls,
+        turn-room w n (map (drop w) ls),
+        mul-suc (w * length ls) n,
+      )
+
+  -- ---- where an element of what is picked stands, and how many there are: four at a time
+  module _ (stride : ℕ) (s : List A) where
+    module _ (at n j : ℕ) (d : A) (h : at + stride * suc n + 4 ≤ length s + stride) where
+      four : length (take 4 (drop at s)) ≡ 4
+      four = length-take-le 4 (drop at s) (omega (arith, length-drop at s, mul-suc stride n))
+
+      picked-first : j < 4 → getD (picked 4 stride s at (suc n)) j d ≡ getD s (at + stride * (j / 4) + j % 4) d
+      unfolding picked
+      picked-first k =
+          let q : j / 4 ≡ 0 = omega arith in
+          let e : at + j ≡ at + stride * (j / 4) + j % 4 = omega (arith, ap (λ (m : ℕ). stride * m) q, mul-zero stride) in
+          List·getD-append (take 4 (drop at s)) (picked 4 stride s (at + stride) n) d j (omega (arith, four))
+          ∙ getD-take 4 (drop at s) j d k
+          ∙ getD-drop at s j d
+          ∙ ap (λ (m : ℕ). getD s m d) e
+
+      picked-later : getD (picked 4 stride s (at + stride) n) j d ≡ getD s (at + stride + stride * (j / 4) + j % 4) d
+          → getD (picked 4 stride s at (suc n)) (4 + j) d ≡ getD s (at + stride * ((4 + j) / 4) + (4 + j) % 4) d
+      unfolding picked
+      picked-later r =
+          let q : (4 + j) / 4 ≡ suc (j / 4) = omega arith in
+          let e : at + stride + stride * (j / 4) + j % 4 ≡ at + stride * ((4 + j) / 4) + (4 + j) % 4 =
+          omega (arith, ap (λ (m : ℕ). stride * m) q, mul-suc stride (j / 4)) in
+          ap (λ (m : ℕ). getD (take 4 (drop at s) ++ picked 4 stride s (at + stride) n) (m + j) d) (sym four)
+          ∙ getD-append-add (take 4 (drop at s)) (picked 4 stride s (at + stride) n) j d
+          ∙ r
+          ∙ ap (λ (m : ℕ). getD s m d) e
+
+    pub picked-at : (at n j : ℕ) (d : A) → at + stride * n + 4 ≤ length s + stride → j < 4 * n → getD (picked 4 stride s at n) j d ≡ getD s (at + stride * (j / 4) + j % 4) d
+    picked-at at zero j d h g = absurd (omega arith)
+    picked-at at (suc n) zero d h g = picked-first at n 0 d h (omega arith)
+    picked-at at (suc n) (suc zero) d h g = picked-first at n 1 d h (omega arith)
+    picked-at at (suc n) (suc (suc zero)) d h g = picked-first at n 2 d h (omega arith)
+    picked-at at (suc n) (suc (suc (suc zero))) d h g = picked-first at n 3 d h (omega arith)
+    picked-at at (suc n) (suc (suc (suc (suc j)))) d h g =
+        subst (λ (k : ℕ). getD (picked 4 stride s at (suc n)) k d ≡ getD s (at + stride * (k / 4) + k % 4) d) (four-more j)
+        (picked-later at n j d h (picked-at (at + stride) n j d (omega (arith, mul-suc stride n)) (omega arith)))
+      where
+        four-more : (j : ℕ) → 4 + j ≡ suc (suc (suc (suc j)))
+        four-more j = omega arith
+
+  pub picked-long : (stride : ℕ) (s : List A) (at n : ℕ) → at + stride * n + 4 ≤ length s + stride → length (picked 4 stride s at n) ≡ 4 * n
+  unfolding picked
+  picked-long stride s at zero h = refl
+  picked-long stride s at (suc n) h =
+      length-append (take 4 (drop at s)) (picked 4 stride s (at + stride) n)
+      ∙ omega (arith, length-take-le 4 (drop at s) (omega (arith, length-drop at s, mul-suc stride n)), picked-long stride s (at + stride) n (omega (arith, mul-suc stride n)))
+
+  -- ---- pieces of one length, one after the other
+  pub joined-next : (f : ℕ → List A) (i n : ℕ) → i < n → joined (values f i (n - i)) ≡ f i ++ joined (values f (i + 1) (n - (i + 1)))
+  unfolding values joined
+  joined-next f i n h =
+      let a : n - i ≡ suc (n - (i + 1)) = omega arith in
+      ap (λ (k : ℕ). joined (values f i k)) a ∙ ap (λ (k : ℕ). f i ++ joined (values f k (n - (i + 1)))) (sym (add-one i))
+
+  pub joined-long : (f : ℕ → List A) (a i n : ℕ) → ((k : ℕ) → length (f k) ≡ a) → length (joined (values f i n)) ≡ n * a
+  unfolding values joined
+  joined-long f a i zero e = sym (zero-mul a)
+  joined-long f a i (suc n) e =
+      length-append (f i) (joined (values f (suc i) n)) ∙ omega (arith, e i, joined-long f a (suc i) n e, suc-mul n a)
+
+  pub joined-at : (f : ℕ → List A) (a i n k : ℕ) → ((k : ℕ) → length (f k) ≡ a) → k < n → take a (drop (k * a) (joined (values f i n))) ≡ f (i + k)
+  unfolding values joined
+  joined-at f a i zero k e h = absurd (omega arith)
+  joined-at f a i (suc n) zero e h =
+      ap (λ (m : ℕ). take a (drop m (f i ++ joined (values f (suc i) n)))) (zero-mul a)
+      ∙ take-at (f i) (joined (values f (suc i) n)) a (e i)
+      ∙ ap f (sym (add-zero i))
+  joined-at f a i (suc n) (suc k) e h =
+      let m : suc k * a ≡ a + k * a = omega (arith, suc-mul k a) in
+      let j : suc i + k ≡ i + suc k = omega arith in
+      ap (λ (m : ℕ). take a (drop m (f i ++ joined (values f (suc i) n)))) m
+      ∙ ap (take a) (sym (drop-drop (k * a) a (f i ++ joined (values f (suc i) n))) ∙ ap (drop (k * a)) (drop-at (f i) (joined (values f (suc i) n)) a (e i)))
+      ∙ joined-at f a (suc i) n k e (omega arith)
+      ∙ ap f j
+
+  -- ---- where every list has as many, how many there are
+  pub turn-long : (w n : ℕ) (ls : List (List A)) → Long (w * n) ls → length (inTurn w n ls) ≡ w * length ls * n
+  unfolding inTurn
+  turn-long w zero ls e = sym (mul-zero (w * length ls))
+  turn-long w (suc n) ls e =
+      let e′ : Long (w * n + w) ls = subst (λ (k : ℕ). Long k ls) (mul-suc w n) e in
+      let r = ap (λ (k : ℕ). w * k * n) (drops-count w ls) in
+      length-append (joined (map (take w) ls)) (inTurn w n (map (drop w) ls))
+      ∙ omega (
+        arith,
+        round-long w (w * n + w) ls e′ (omega arith),
+        turn-long w n (map (drop w) ls) (drops-long w (w * n) ls e′),
+        mul-suc (w * length ls) n,
+      )
+
+  -- ---- two lists: the next w elements of each
+  pub turn-two : (w n : ℕ) (a b p q : List A) → length a ≡ w → length b ≡ w → inTurn w (suc n) ((a ++ p) ∷ (b ++ q) ∷ []) ≡ a ++ (b ++ inTurn w n (p ∷ q ∷ []))
+  unfolding inTurn joined
+  turn-two w n a b p q e f =
+      rw (take-at a p w e, take-at b q w f, drop-at a p w e, drop-at b q w f, append-nil b) (append-assoc a b (inTurn w n (p ∷ q ∷ [])))

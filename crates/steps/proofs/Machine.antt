@@ -1,0 +1,109 @@
+-- Samples in a list: their codes lead through the encoder's states, and each is as near as demand 3 says. Assumes nothing.
+use mathlib.Core.Path.{_≡_, refl, ap}
+use mathlib.Core.Bool.{Bool}
+use mathlib.Core.List.{List, [], _∷_, _++_}
+use Prim.Native.Nat.{ℕ, zero, suc, _<_}
+use native.Mathlib.Omega.{arith}
+use lib.IntN.{ℤ, pos}
+use lib.ListN.{length, take, getD}
+use mir.Syntax.{w16}
+use mir.Val.{SFits}
+use Rattle.steps.specs.declared.State.{State}
+use Rattle.steps.specs.Code.{codeFor, tracked, isChased}
+use Rattle.steps.specs.Machine.{run, codesOf, after, chasedOf, trackedAll}
+use Rattle.steps.specs.Quality.{InRange, Sixteen, Faithful}
+use Rattle.steps.proofs.Coding.{tracked-in-range}
+use Rattle.steps.proofs.Quality.{faithful}
+
+-- ---- decoding the codes of samples goes through the very states of encoding them
+pub run-tracks : (t : State) (xs : List ℤ) → run t (codesOf t xs) ≡ trackedAll t xs
+unfolding run codesOf trackedAll tracked
+run-tracks t [] = refl
+run-tracks t (x ∷ xs) = ap (λ (l : List State). tracked t x ∷ l) (run-tracks (tracked t x) xs)
+
+-- ---- one list after another
+pub after-append : (t : State) (xs ys : List ℤ) → after t (xs ++ ys) ≡ after (after t xs) ys
+unfolding after
+after-append t [] ys = refl
+after-append t (x ∷ xs) ys = after-append (tracked t x) xs ys
+
+pub codes-append : (t : State) (xs ys : List ℤ) → codesOf t (xs ++ ys) ≡ codesOf t xs ++ codesOf (after t xs) ys
+unfolding codesOf after
+codes-append t [] ys = refl
+codes-append t (x ∷ xs) ys = ap (λ (l : List ℕ). codeFor t x ∷ l) (codes-append (tracked t x) xs ys)
+
+pub chased-append : (t : State) (xs ys : List ℤ) → chasedOf t (xs ++ ys) ≡ chasedOf t xs ++ chasedOf (after t xs) ys
+unfolding chasedOf after
+chased-append t [] ys = refl
+chased-append t (x ∷ xs) ys = ap (λ (l : List Bool). isChased t x ∷ l) (chased-append (tracked t x) xs ys)
+
+pub tracked-append : (t : State) (xs ys : List ℤ) → trackedAll t (xs ++ ys) ≡ trackedAll t xs ++ trackedAll (after t xs) ys
+unfolding trackedAll after
+tracked-append t [] ys = refl
+tracked-append t (x ∷ xs) ys = ap (λ (l : List State). tracked t x ∷ l) (tracked-append (tracked t x) xs ys)
+
+-- ---- one for each sample
+pub length-codes : (t : State) (xs : List ℤ) → length (codesOf t xs) ≡ length xs
+unfolding codesOf
+length-codes t [] = refl
+length-codes t (x ∷ xs) = ap suc (length-codes (tracked t x) xs)
+
+pub length-chased : (t : State) (xs : List ℤ) → length (chasedOf t xs) ≡ length xs
+unfolding chasedOf
+length-chased t [] = refl
+length-chased t (x ∷ xs) = ap suc (length-chased (tracked t x) xs)
+
+pub length-tracked : (t : State) (xs : List ℤ) → length (trackedAll t xs) ≡ length xs
+unfolding trackedAll
+length-tracked t [] = refl
+length-tracked t (x ∷ xs) = ap suc (length-tracked (tracked t x) xs)
+
+-- ---- lists of 16-bit samples
+pub sixteen-none : Sixteen []
+sixteen-none = record { at = λ i. none i }
+  where
+    none : (i : ℕ) → SFits w16 (getD [] i (pos 0))
+    none i = omega arith
+
+pub sixteen-more : {x : ℤ} {xs : List ℤ} → SFits w16 x → Sixteen xs → Sixteen (x ∷ xs)
+sixteen-more {x} {xs} f s = record { at = by }
+  where
+    by : (i : ℕ) → SFits w16 (getD (x ∷ xs) i (pos 0))
+    by zero = f
+    by (suc i) = s .at i
+
+pub sixteen-first : {x : ℤ} {xs : List ℤ} → Sixteen (x ∷ xs) → SFits w16 x
+sixteen-first s = s .at 0
+
+pub sixteen-rest : {x : ℤ} {xs : List ℤ} → Sixteen (x ∷ xs) → Sixteen xs
+sixteen-rest s = record { at = λ i. s .at (suc i) }
+
+pub sixteen-append : {xs ys : List ℤ} → Sixteen xs → Sixteen ys → Sixteen (xs ++ ys)
+sixteen-append {xs = []} s r = r
+sixteen-append {xs = x ∷ xs} s r = sixteen-more (sixteen-first s) (sixteen-append (sixteen-rest s) r)
+
+pub sixteen-left : (xs ys : List ℤ) → Sixteen (xs ++ ys) → Sixteen xs
+sixteen-left [] ys s = sixteen-none
+sixteen-left (x ∷ xs) ys s = sixteen-more (sixteen-first s) (sixteen-left xs ys (sixteen-rest s))
+
+pub sixteen-right : (xs : List ℤ) {ys : List ℤ} → Sixteen (xs ++ ys) → Sixteen ys
+sixteen-right [] s = s
+sixteen-right (x ∷ xs) s = sixteen-right xs (sixteen-rest s)
+
+-- ---- the channel after samples, and the quality of each of them
+pub after-in-range : {t : State} (xs : List ℤ) → InRange t → InRange (after t xs)
+unfolding after
+after-in-range [] c = c
+after-in-range {t} (x ∷ xs) c = after-in-range xs (tracked-in-range t x)
+
+pub after-next : (t : State) (xs : List ℤ) (i : ℕ) → i < length xs
+    → tracked (after t (take i xs)) (getD xs i (pos 0)) ≡ after t (take (suc i) xs)
+unfolding after
+after-next t [] i h = absurd (omega arith)
+after-next t (x ∷ xs) zero h = refl
+after-next t (x ∷ xs) (suc i) h = after-next (tracked t x) xs i (omega arith)
+
+-- sample i of a list, decoded, is as near as demand 3 says
+pub all-faithful : {t : State} {xs : List ℤ} → InRange t → Sixteen xs → (i : ℕ) → i < length xs
+    → Faithful (after t (take i xs)) (getD xs i (pos 0)) (after t (take (suc i) xs) .last)
+all-faithful {t} {xs} c s i h = rw (← after-next t xs i h) (faithful (after-in-range (take i xs) c) (s .at i))

@@ -1,0 +1,3 @@
+pub mod Code
+pub mod Machine
+pub mod Quality

@@ -1,0 +1,280 @@
+// One IMA code: the steps, what a code does to a channel, and the code of a sample.
+ghost use mathlib.Core.Path.{_≡_};
+ghost use mathlib.Core.Bool.{cond};
+ghost use Prim.Native.Nat.{_+_, _*_, _≤_, _<_};
+ghost use lib.Dec.{leb};
+ghost use Rattle.steps.specs.Code.{steps, stepAt, sizeOf, signedBy, indexFrom, decoded, bitsFor, codeFor, tracked, isChased};
+
+// A channel between two codes: its last sample, and the index of its step.
+pub struct State {
+    pub last: i16,
+    pub index: usize,
+}
+
+// What coding a sample gives: its code, whether it is chased, and the channel after it.
+pub struct Coded {
+    pub code: u32,
+    pub chased: bool,
+    pub state: State,
+}
+
+// The bits of a magnitude, and the size of the difference that they say.
+pub struct Bits {
+    pub code: u32,
+    pub size: u32,
+}
+
+pub const STEPS: [u16; 89] = [
+    7,
+    8,
+    9,
+    10,
+    11,
+    12,
+    13,
+    14,
+    16,
+    17,
+    19,
+    21,
+    23,
+    25,
+    28,
+    31,
+    34,
+    37,
+    41,
+    45,
+    50,
+    55,
+    60,
+    66,
+    73,
+    80,
+    88,
+    97,
+    107,
+    118,
+    130,
+    143,
+    157,
+    173,
+    190,
+    209,
+    230,
+    253,
+    279,
+    307,
+    337,
+    371,
+    408,
+    449,
+    494,
+    544,
+    598,
+    658,
+    724,
+    796,
+    876,
+    963,
+    1060,
+    1166,
+    1282,
+    1411,
+    1552,
+    1707,
+    1878,
+    2066,
+    2272,
+    2499,
+    2749,
+    3024,
+    3327,
+    3660,
+    4026,
+    4428,
+    4871,
+    5358,
+    5894,
+    6484,
+    7132,
+    7845,
+    8630,
+    9493,
+    10442,
+    11487,
+    12635,
+    13899,
+    15289,
+    16818,
+    18500,
+    20350,
+    22385,
+    24623,
+    27086,
+    29794,
+    32767,
+];
+
+// A value where a bit is set, else 0.
+fn part(on: bool, value: u32) -> u32
+    ensures { λ r. ⌜ (r ≡ cond on value 0) × (r ≤ value) ⌝ }
+{
+    if on {
+        return value;
+    }
+    0
+}
+
+// The size of a code's difference, each quotient rounded down by itself.
+fn size(step: u32, code: u32) -> u32
+    requires { ⌜ step ≤ 32767 ⌝ }
+    ensures { λ r. ⌜ (r ≡ sizeOf step code) × (r ≤ 65535) ⌝ }
+{
+    let four = part(code / 4 % 2 == 1, step);
+    let two = part(code / 2 % 2 == 1, step / 2);
+    let one = part(code % 2 == 1, step / 4);
+    step / 8 + four + two + one
+}
+
+// A size as a difference, downward or upward.
+fn toward(down: bool, size: u32) -> i32
+    requires { ⌜ size ≤ 65535 ⌝ }
+    ensures { λ r. ⌜ r ≡ signedBy down size ⌝ }
+{
+    if down {
+        return -(size as i32);
+    }
+    size as i32
+}
+
+// The index after a code of which `low` are the lower three bits.
+fn moved(index: usize, low: u32) -> usize
+    requires { ⌜ (index < 89) × (low < 8) ⌝ }
+    ensures { λ r. ⌜ (r ≡ indexFrom index low) × (r < 89) ⌝ }
+{
+    if low < 4 {
+        if index == 0 {
+            return 0;
+        }
+        return index - 1;
+    }
+    let up = index + 2 * (low as usize) - 6;
+    if 88 < up {
+        return 88;
+    }
+    up
+}
+
+// A channel after a code. The table of steps is lent, so that a loop copies it once and for all.
+pub fn decode_code(state: State, code: u32, table: &[u16; 89]) -> State
+    requires { ⌜ (state .index < 89) × (now table ≡ steps) ⌝ }
+    ensures { λ r. ⌜ (r ≡ decoded state code) × (r .index < 89) ⌝ }
+{
+    let index = state.index;
+    let step = table[index] as u32;
+    let difference = toward(code / 8 % 2 == 1, size(step, code));
+    let last = samples::held(state.last as i32 + difference);
+    State {
+        last: last,
+        index: moved(index, code % 8),
+    }
+}
+
+// The lower three bits of a code for a magnitude: 4 if the step is in it, 2 if half the step is in
+// what that leaves, 1 if a quarter is in what that leaves.
+fn bits_for(step: u32, magnitude: u32) -> Bits
+    requires { ⌜ step ≤ 32767 ⌝ }
+    ensures { λ r. ⌜ (r .code ≡ bitsFor step magnitude) × (r .code < 8) × (r .size ≡ sizeOf step (r .code)) × (r .size ≤ 65535) ⌝ }
+{
+    let half = step / 2;
+    let quarter = step / 4;
+    let eighth = step / 8;
+    if step <= magnitude {
+        let rest = magnitude - step;
+        if half <= rest {
+            if quarter <= rest - half {
+                return Bits {
+                    code: 7,
+                    size: eighth + step + half + quarter,
+                };
+            }
+            return Bits {
+                code: 6,
+                size: eighth + step + half,
+            };
+        }
+        if quarter <= rest {
+            return Bits {
+                code: 5,
+                size: eighth + step + quarter,
+            };
+        }
+        return Bits {
+            code: 4,
+            size: eighth + step,
+        };
+    }
+    if half <= magnitude {
+        if quarter <= magnitude - half {
+            return Bits {
+                code: 3,
+                size: eighth + half + quarter,
+            };
+        }
+        return Bits {
+            code: 2,
+            size: eighth + half,
+        };
+    }
+    if quarter <= magnitude {
+        return Bits {
+            code: 1,
+            size: eighth + quarter,
+        };
+    }
+    Bits {
+        code: 0,
+        size: eighth,
+    }
+}
+
+// Codes a difference of a magnitude, downward or upward.
+fn code_difference(state: State, down: bool, step: u32, magnitude: u32) -> Coded
+    requires { ⌜ (state .index < 89) × (step ≡ stepAt (state .index)) ⌝ }
+    ensures { λ r. ⌜ (r .code ≡ cond down 8 0 + bitsFor step magnitude)
+        × (r .code < 16)
+        × (r .chased ≡ leb (2 * step) magnitude)
+        × (r .state ≡ decoded state (cond down 8 0 + bitsFor step magnitude))
+        × (r .state .index < 89) ⌝ }
+{
+    let bits = bits_for(step, magnitude);
+    let last = samples::held(state.last as i32 + toward(down, bits.size));
+    let index = moved(state.index, bits.code);
+    Coded {
+        code: part(down, 8) + bits.code,
+        chased: 2 * step <= magnitude,
+        state: State {
+            last: last,
+            index: index,
+        },
+    }
+}
+
+// Codes a sample. The sign is branched on first: each branch then needs one bound of the 16 bits.
+pub fn encode_code(state: State, sample: i16, table: &[u16; 89]) -> Coded
+    requires { ⌜ (state .index < 89) × (now table ≡ steps) ⌝ }
+    ensures { λ r. ⌜ (r .code ≡ codeFor state sample)
+        × (r .code < 16)
+        × (r .chased ≡ isChased state sample)
+        × (r .state ≡ tracked state sample)
+        × (r .state .index < 89) ⌝ }
+{
+    let index = state.index;
+    let step = table[index] as u32;
+    let difference = sample as i32 - state.last as i32;
+    if difference < 0 {
+        return code_difference(state, true, step, (-difference) as u32);
+    }
+    code_difference(state, false, step, difference as u32)
+}
