@@ -45,7 +45,7 @@ length-packed zero (k ∷ l ∷ ks) e = absurd (omega arith)
 length-packed (suc n) (k ∷ l ∷ ks) e = ap suc (length-packed n ks (omega arith))
 
 -- ---- the channel after them
-count-append : (n : ℕ) (bs cs : List Bool) → countOf (take n (bs ++ cs)) ≡ countOf (take n bs) + countOf (take (n - length bs) cs)
+pub count-append : (n : ℕ) (bs cs : List Bool) → countOf (take n (bs ++ cs)) ≡ countOf (take n bs) + countOf (take (n - length bs) cs)
 unfolding countOf
 count-append n [] cs = omega (arith, ap countOf (take-nil {A = Bool} n), ap (λ (k : ℕ). countOf (take k cs)) (sub-zero n))
 count-append zero (b ∷ bs) cs =

@@ -1,0 +1,173 @@
+-- The answer of encoding, from the checks and the blocks. Assumes nothing.
+use mathlib.Core.Path.{_≡_, refl, sym, ap, _∙_, subst}
+use mathlib.Core.Bool.{Bool, true, false}
+use mathlib.Core.List.{List}
+use Prim.Native.Nat.{ℕ, _+_, _-_, _*_, _/_, _%_, _≤_, _<_}
+use native.Mathlib.Omega.{arith}
+use lib.Dec.{T, leb, eqb, leb→le, eqb→eq}
+use lib.IntN.{ℤ}
+use lib.ListN.{length}
+use mir.Syntax.{w64}
+use mir.Val.{Fits}
+use Rattle.little.specs.Writing.{front}
+use Rattle.lists.proofs.Turns.{joined-long}
+use Rattle.units.specs.declared.Refusal.{Refusal}
+use Rattle.units.specs.declared.Refusal.the-variants.{LengthOutOfRange, FormatWrong, NotWholeFrames, OutputTooSmall}
+use Rattle.units.specs.declared.Verdict.{Verdict}
+use Rattle.units.specs.declared.Verdict.the-variants.{Accepted, Refused}
+use Rattle.units.specs.Refusals.{demand}
+use Rattle.ima.specs.declared.Written.{Written}
+use Rattle.ima.specs.declared.Encoded.{Encoded}
+use Rattle.ima.specs.Encoding.{codable, blocksFor, blockBytes, encodedBytes, chasedCount, encodeVerdict}
+use Rattle.ima.specs.Answer.{writtenOf, answer, encoding, holding}
+use Rattle.ima.proofs.Settling.{Codable, codable-says, product-fits}
+use Rattle.ima.proofs.Loops.{length-mono, length-stereo}
+
+-- ---- what the verdict says where it is accepted
+pub record Settled (n c a room : ℕ) : Type 0 where
+  pub small : n ≤ 536870912
+  pub fine : Codable c a
+  pub whole : n % c ≡ 0
+  pub fits : blocksFor c a n * a ≤ room
+
+met : (b : Bool) (r : Refusal) (v : Verdict) → demand b r v ≡ Accepted → (b ≡ true) × (v ≡ Accepted)
+met true r v e = (refl, e)
+met false r v e = let z : _≡_ {A = ℕ} 0 1 = cc in absurd (omega arith)
+
+pub settled-says : (n c a room : ℕ) → encodeVerdict n c a room ≡ Accepted → Settled n c a room
+unfolding encodeVerdict
+settled-says n c a room e =
+    let x : Verdict = demand (leb (blocksFor c a n * a) room) OutputTooSmall Accepted in
+    let y : Verdict = demand (eqb (n % c) 0) NotWholeFrames x in
+    let z : Verdict = demand (codable c a) FormatWrong y in
+    let p = met (leb n 536870912) LengthOutOfRange z e in
+    let q = met (codable c a) FormatWrong y (p .1) in
+    let r = met (eqb (n % c) 0) NotWholeFrames x (q .1) in
+    let s = met (leb (blocksFor c a n * a) room) OutputTooSmall Accepted (r .1) in
+    record {
+      small = leb→le n 536870912 (subst T (sym (p .0)) tt);
+      fine = codable-says c a (q .0);
+      whole = eqb→eq (n % c) 0 (subst T (sym (r .0)) tt);
+      fits = leb→le (blocksFor c a n * a) room (subst T (sym (s .0)) tt);
+    }
+
+module _ (n c a room : ℕ) (e : encodeVerdict n c a room ≡ Accepted) where
+  said : Settled n c a room
+  said = settled-says n c a room e
+
+  pub said-some : 1 ≤ c
+  said-some = said .fine .some
+
+  pub said-room : 4 * c ≤ a
+  said-room = omega (arith, said .fine .least)
+
+  pub said-most : a ≤ 4096
+  said-most = said .fine .most
+
+  pub said-small : n ≤ 536870912
+  said-small = said .small
+
+  pub said-fits : {b : ℕ} → b ≤ 536870912 → Fits w64 (b * a)
+  said-fits k = product-fits k (said .fine .most)
+
+  -- one channel
+  module _ (o : c ≡ 1) where
+    one : Settled n 1 a room
+    one = subst (λ (k : ℕ). Settled n k a room) o said
+
+    pub one-whole : a % 4 ≡ 0
+    one-whole = one .fine .whole
+
+    pub one-least : 8 ≤ a
+    one-least = one .fine .least
+
+    pub one-blocks : {b : ℕ} → b ≡ blocksFor c a n → b ≡ blocksFor 1 a n
+    one-blocks g = g ∙ ap (λ (k : ℕ). blocksFor k a n) o
+
+    pub one-fits : {b : ℕ} → b ≡ blocksFor c a n → b * a ≤ room
+    one-fits g = subst (λ (k : ℕ). k * a ≤ room) (sym g) (said .fits)
+
+  -- two
+  module _ (o : c ≡ 1 → ⊥) where
+    two-channels : c ≡ 2
+    two-channels = two (said .fine .some) (said .fine .two)
+      where
+        two : 1 ≤ c → c ≤ 2 → c ≡ 2
+        two h g = omega (arith, o)
+
+    both : Settled n 2 a room
+    both = subst (λ (k : ℕ). Settled n k a room) two-channels said
+
+    pub two-whole : a % 8 ≡ 0
+    two-whole = both .fine .whole
+
+    pub two-least : 16 ≤ a
+    two-least = both .fine .least
+
+    pub two-frames : n % 2 ≡ 0
+    two-frames = both .whole
+
+    pub two-blocks : {b : ℕ} → b ≡ blocksFor c a n → b ≡ blocksFor 2 a n
+    two-blocks g = g ∙ ap (λ (k : ℕ). blocksFor k a n) two-channels
+
+    pub two-fits : {b : ℕ} → b ≡ blocksFor c a n → b * a ≤ room
+    two-fits g = subst (λ (k : ℕ). k * a ≤ room) (sym g) (said .fits)
+
+-- ---- what was written
+length-encoded : (c a : ℕ) (s : List ℤ) → ((k : ℕ) → length (blockBytes c a s k) ≡ a) → length (encodedBytes c a s) ≡ blocksFor c a (length s) * a
+unfolding encodedBytes
+length-encoded c a s l = joined-long (blockBytes c a s) a 0 (blocksFor c a (length s)) l
+
+absent : (a : ℕ) (s : List ℤ) → 0 ≡ chasedCount 1 a s 1
+unfolding chasedCount
+absent a s = refl
+
+module _ (c a room : ℕ) (s : List ℤ) (e : encodeVerdict (length s) c a room ≡ Accepted) {b : ℕ} (g : b ≡ blocksFor c a (length s)) where
+  pub mono-answer : {n : ℕ} → c ≡ 1 → n ≡ chasedCount 1 a s 0
+      → record { bytes = record { 0 = b * a }; left = record { 0 = n }; right = record { 0 = 0 } } ≡ writtenOf c a s
+  unfolding writtenOf
+  mono-answer {n} o h =
+      let w : Codable 1 a = one (length s) c a room e o .fine in
+      let k : b * a ≡ length (encodedBytes 1 a s) =
+      ap (λ (m : ℕ). m * a) (one-blocks (length s) c a room e o g) ∙ sym (length-encoded 1 a s (λ m. length-mono a s m w)) in
+      let z : 0 ≡ chasedCount 1 a s 1 = absent a s in
+      ap (λ (m : ℕ). record { bytes = record { 0 = m }; left = record { 0 = n }; right = record { 0 = 0 } }) k
+      ∙ ap (λ (m : ℕ). record { bytes = record { 0 = length (encodedBytes 1 a s) }; left = record { 0 = m }; right = record { 0 = 0 } }) h
+      ∙ ap (λ (m : ℕ). record { bytes = record { 0 = length (encodedBytes 1 a s) }; left = record { 0 = chasedCount 1 a s 0 }; right = record { 0 = m } }) z
+      ∙ ap (λ (k : ℕ). writtenOf k a s) (sym o)
+
+  pub mono-buffer : (d : List ℕ) {f : List ℕ} → c ≡ 1 → f ≡ front (encodedBytes 1 a s) d → f ≡ front (encodedBytes c a s) d
+  mono-buffer d o h = h ∙ ap (λ (k : ℕ). front (encodedBytes k a s) d) (sym o)
+
+  module _ (o : c ≡ 1 → ⊥) where
+    pub stereo-answer : {n m : ℕ} → n ≡ chasedCount 2 a s 0 → m ≡ chasedCount 2 a s 1
+        → record { bytes = record { 0 = b * a }; left = record { 0 = n }; right = record { 0 = m } } ≡ writtenOf c a s
+    unfolding writtenOf
+    stereo-answer {n} {m} h i =
+        let w : Codable 2 a = both (length s) c a room e o .fine in
+        let k : b * a ≡ length (encodedBytes 2 a s) =
+        ap (λ (m : ℕ). m * a) (two-blocks (length s) c a room e o g) ∙ sym (length-encoded 2 a s (λ m. length-stereo a s m w)) in
+        ap (λ (q : ℕ). record { bytes = record { 0 = q }; left = record { 0 = n }; right = record { 0 = m } }) k
+        ∙ ap (λ (q : ℕ). record { bytes = record { 0 = length (encodedBytes 2 a s) }; left = record { 0 = q }; right = record { 0 = m } }) h
+        ∙ ap (λ (q : ℕ). record { bytes = record { 0 = length (encodedBytes 2 a s) }; left = record { 0 = chasedCount 2 a s 0 }; right = record { 0 = q } }) i
+        ∙ ap (λ (k : ℕ). writtenOf k a s) (sym (two-channels (length s) c a room e o))
+
+    pub stereo-buffer : (d : List ℕ) {f : List ℕ} → f ≡ front (encodedBytes 2 a s) d → f ≡ front (encodedBytes c a s) d
+    stereo-buffer d h = h ∙ ap (λ (k : ℕ). front (encodedBytes k a s) d) (sym (two-channels (length s) c a room e o))
+
+pub ruleset writing = (said-some, said-room, said-most, said-small, said-fits, one-whole, one-least, one-blocks, one-fits, two-whole, two-least, two-frames, two-blocks, two-fits, mono-answer, mono-buffer, stereo-answer, stereo-buffer)
+
+-- ---- the answer
+module _ (c a room : ℕ) (s : List ℤ) {v : Verdict} (e : v ≡ encodeVerdict (length s) c a room) where
+  pub asked : v ≡ Accepted → encodeVerdict (length s) c a room ≡ Accepted
+  asked f = sym e ∙ f
+
+  pub answer-blocks : {w : Written} → v ≡ Accepted → w ≡ writtenOf c a s → answer Accepted w ≡ encoding s c a room
+  unfolding encoding
+  answer-blocks {w} f g = ap (λ (x : Verdict). answer x w) (sym f ∙ e) ∙ ap (answer (encodeVerdict (length s) c a room)) g
+
+  pub answer-refused : {r : Refusal} → v ≡ Refused r → answer (Refused r) (writtenOf c a s) ≡ encoding s c a room
+  unfolding encoding
+  answer-refused f = ap (λ (x : Verdict). answer x (writtenOf c a s)) (sym f ∙ e)
+
+pub ruleset answering = (asked, answer-blocks, answer-refused)
