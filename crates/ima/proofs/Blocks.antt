@@ -31,7 +31,7 @@ pub per-stereo : {a : ℕ} → Codable 2 a → samplesPerBlock 2 a ≡ 8 * (a / 
 unfolding samplesPerBlock
 per-stereo w = omega (arith, w .whole, w .least)
 
-per-some : (c a : ℕ) → 1 ≤ samplesPerBlock c a
+pub per-some : (c a : ℕ) → 1 ≤ samplesPerBlock c a
 unfolding samplesPerBlock
 per-some c a = omega arith
 
@@ -62,7 +62,7 @@ block-counts t (suc n) (x ∷ xs) h g =
     let fs : List Bool = chasedOf (record { last = x; index = t .state .index }) xs in
     ap (λ (m : ℕ). t .chased + countOf (take m fs)) k ∙ omega arith
 
-length-part : (i : ℕ) (xs : List ℤ) → length (chasedPart i xs) ≡ length xs
+pub length-part : (i : ℕ) (xs : List ℤ) → length (chasedPart i xs) ≡ length xs
 unfolding chasedPart
 length-part i [] = refl
 length-part i (x ∷ xs) = ap suc (length-chased (record { last = x; index = i }) xs)

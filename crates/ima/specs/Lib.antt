@@ -1,2 +1,3 @@
 pub mod Encoding
 pub mod Answer
+pub mod Demands

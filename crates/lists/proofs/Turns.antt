@@ -3,7 +3,7 @@ use mathlib.Core.Path.{_≡_, refl, sym, ap, _∙_, subst}
 use mathlib.Core.List.{List, [], _∷_, _++_, map, append-assoc, append-nil}
 use Prim.Native.Nat.{ℕ, zero, suc, _+_, _-_, _*_, _/_, _%_, _≤_, _<_}
 use native.Mathlib.Omega.{arith}
-use native.Mathlib.Nat.{mul-zero, zero-mul, mul-suc, suc-mul, add-zero, zero-add, le-trans}
+use native.Mathlib.Nat.{mul-zero, zero-mul, mul-suc, suc-mul, add-zero, zero-add, le-trans, mod-lt, div-add-mod', div-lt-iff-lt-mul}
 use native.Mathlib.Numerals.{add-one}
 use lib.ListN.{length, take, drop, getD, length-append, length-take, length-drop, take-append-drop, List·getD-append}
 use lib.Seq.{take-at, drop-at, drop-drop, length-take-le, take-append-le, take-append-seam, drop-append-add, take-append-add, take-nil, drop-nil, getD-take, getD-drop, getD-append-add}
@@ -223,3 +223,32 @@ module _ {A : Type 0} where
   unfolding inTurn joined
   turn-two w n a b p q e f =
       rw (take-at a p w e, take-at b q w f, drop-at a p w e, drop-at b q w f, append-nil b) (append-assoc a b (inTurn w n (p ∷ q ∷ [])))
+
+  -- ---- the values of a function
+  pub values-long : (f : ℕ → A) (i n : ℕ) → length (values f i n) ≡ n
+  unfolding values
+  values-long f i zero = refl
+  values-long f i (suc n) = ap suc (values-long f (suc i) n)
+
+  pub values-at : (f : ℕ → A) (i n k : ℕ) (d : A) → k < n → getD (values f i n) k d ≡ f (i + k)
+  unfolding values
+  values-at f i zero k d h = absurd (omega arith)
+  values-at f i (suc n) zero d h = ap f (sym (add-zero i))
+  values-at f i (suc n) (suc k) d h =
+      let e : suc i + k ≡ i + suc k = omega arith in
+      values-at f (suc i) n k d (omega arith) ∙ ap f e
+
+  -- element i of pieces of one length
+  pub joined-element : (f : ℕ → List A) (a n i : ℕ) (d : A) → ((k : ℕ) → length (f k) ≡ a) → 1 ≤ a → i < n * a
+      → getD (joined (values f 0 n)) i d ≡ getD (f (i / a)) (i % a) d
+  joined-element f a n i d e h g =
+      let k : ℕ = i / a in
+      let j : ℕ = i % a in
+      let p : i ≡ k * a + j = sym (div-add-mod' i a) in
+      let q : k < n = div-lt-iff-lt-mul {x = i} {y = n} h .1 g in
+      let z : 0 + k ≡ k = zero-add k in
+      ap (λ (m : ℕ). getD (joined (values f 0 n)) m d) p
+      ∙ sym (getD-drop (k * a) (joined (values f 0 n)) j d)
+      ∙ sym (getD-take a (drop (k * a) (joined (values f 0 n))) j d (mod-lt i h))
+      ∙ ap (λ (l : List A). getD l j d) (joined-at f a 0 n k e q)
+      ∙ ap (λ (m : ℕ). getD (f m) j d) z

@@ -1,11 +1,11 @@
 -- Samples in a list: their codes lead through the encoder's states, and each is as near as demand 3 says. Assumes nothing.
 use mathlib.Core.Path.{_≡_, refl, ap}
-use mathlib.Core.Bool.{Bool}
+use mathlib.Core.Bool.{Bool, false}
 use mathlib.Core.List.{List, [], _∷_, _++_}
 use Prim.Native.Nat.{ℕ, zero, suc, _<_}
 use native.Mathlib.Omega.{arith}
 use lib.IntN.{ℤ, pos}
-use lib.ListN.{length, take, getD}
+use lib.ListN.{length, getD}
 use mir.Syntax.{w16}
 use mir.Val.{SFits}
 use Rattle.steps.specs.declared.State.{State}
@@ -96,14 +96,17 @@ unfolding after
 after-in-range [] c = c
 after-in-range {t} (x ∷ xs) c = after-in-range xs (tracked-in-range t x)
 
-pub after-next : (t : State) (xs : List ℤ) (i : ℕ) → i < length xs
-    → tracked (after t (take i xs)) (getD xs i (pos 0)) ≡ after t (take (suc i) xs)
-unfolding after
-after-next t [] i h = absurd (omega arith)
-after-next t (x ∷ xs) zero h = refl
-after-next t (x ∷ xs) (suc i) h = after-next (tracked t x) xs i (omega arith)
+-- sample j of a list comes after the state before it, and is as near as demand 3 says; and whether it is chased
+pub faithful-at : {t : State} {xs : List ℤ} (z : State) → InRange t → Sixteen xs → (j : ℕ) → j < length xs
+    → Faithful (getD (t ∷ trackedAll t xs) j z) (getD xs j (pos 0)) (getD (trackedAll t xs) j z .last)
+unfolding trackedAll
+faithful-at {xs = []} z c s j h = absurd (omega arith)
+faithful-at {xs = x ∷ xs} z c s zero h = faithful c (sixteen-first s)
+faithful-at {t} {xs = x ∷ xs} z c s (suc j) h = faithful-at z (tracked-in-range t x) (sixteen-rest s) j (omega arith)
 
--- sample i of a list, decoded, is as near as demand 3 says
-pub all-faithful : {t : State} {xs : List ℤ} → InRange t → Sixteen xs → (i : ℕ) → i < length xs
-    → Faithful (after t (take i xs)) (getD xs i (pos 0)) (after t (take (suc i) xs) .last)
-all-faithful {t} {xs} c s i h = rw (← after-next t xs i h) (faithful (after-in-range (take i xs) c) (s .at i))
+pub chased-at : (t : State) (xs : List ℤ) (z : State) (j : ℕ) → j < length xs
+    → getD (chasedOf t xs) j false ≡ isChased (getD (t ∷ trackedAll t xs) j z) (getD xs j (pos 0))
+unfolding trackedAll chasedOf
+chased-at t [] z j h = absurd (omega arith)
+chased-at t (x ∷ xs) z zero h = refl
+chased-at t (x ∷ xs) z (suc j) h = chased-at (tracked t x) xs z j (omega arith)

@@ -1,0 +1,59 @@
+-- Demand 3, for whole sounds: what is heard when the blocks that encoding wrote are decoded. Assumes nothing.
+use Prim.Native.Nat.{ℕ, _+_, _-_, _*_, _/_, _%_, _<_}
+use mathlib.Core.Path.{_≡_}
+use mathlib.Core.Bool.{Bool, true, cond, _&&_}
+use mathlib.Core.List.{List}
+use lib.Dec.{ltb}
+use lib.IntN.{ℤ, pos}
+use lib.ListN.{length, take, drop, getD}
+use Rattle.lists.specs.Turns.{values}
+use Rattle.steps.specs.declared.State.{State}
+use Rattle.steps.specs.Code.{isChased}
+use Rattle.steps.specs.Quality.{Sixteen, Faithful, atMost}
+use Rattle.blocks.specs.Block.{samplesPerBlock, channelPart, statesIn}
+use Rattle.coder.specs.Part.{countOf}
+use Rattle.ima.specs.declared.Written.{Written}
+use Rattle.ima.specs.declared.Encoded.the-variants.{Blocks}
+use Rattle.ima.specs.Encoding.{encodedBytes}
+use Rattle.ima.specs.Answer.{encoding}
+
+-- frame f of channel ch of a sound s of c channels
+unfoldable pub frameOf : ℕ → List ℤ → ℕ → ℕ → ℤ
+frameOf c s ch f = getD s (c * f + ch) (pos 0)
+
+-- block k of bytes in blocks of align a
+unfoldable pub blockIn : ℕ → List ℕ → ℕ → List ℕ
+blockIn a bytes k = take a (drop (k * a) bytes)
+
+-- channel ch as decoding those blocks has it after frame f: its last sample is what is heard, its index says the next step
+unfoldable pub heardAt : ℕ → ℕ → List ℕ → ℕ → ℕ → State
+heardAt c a bytes ch f =
+    getD (statesIn (channelPart c (blockIn a bytes (f / samplesPerBlock c a)) ch)) (f % samplesPerBlock c a) (record { last = pos 0; index = 0 })
+
+-- whether frame f is chased: it does not open a block, and is at least twice the current step away from its prediction, the sample
+-- decoded before it
+unfoldable pub chasedAt : ℕ → ℕ → List ℤ → List ℕ → ℕ → ℕ → Bool
+chasedAt c a s bytes ch f = ltb 0 (f % samplesPerBlock c a) && isChased (heardAt c a bytes ch (f - 1)) (frameOf c s ch f)
+
+-- for each frame of the sound, whether it is chased
+unfoldable pub chasedFrames : ℕ → ℕ → List ℤ → List ℕ → ℕ → List Bool
+chasedFrames c a s bytes ch = values (chasedAt c a s bytes ch) 0 (length s / c)
+
+-- bytes say a sound so well, and the counts of left and right are the numbers of its chased samples
+pub record Heard (s : List ℤ) (c a : ℕ) (bytes : List ℕ) (left right : ℕ) : Type 0 where
+  -- in each channel a sample that opens a block is exact
+  pub opening : (ch f : ℕ) → ch < c → f < length s / c → f % samplesPerBlock c a ≡ 0 → heardAt c a bytes ch f .last ≡ frameOf c s ch f
+  -- a later one is within an eighth of the step plus 2 of the original, or chased: then strictly nearer than its prediction, not beyond
+  pub later : (ch f : ℕ) → ch < c → f < length s / c → 0 < f % samplesPerBlock c a
+      → Faithful (heardAt c a bytes ch (f - 1)) (frameOf c s ch f) (heardAt c a bytes ch f .last)
+  -- no channel has 12 chased samples in succession
+  pub succession : (ch : ℕ) → ch < c → atMost 11 (chasedFrames c a s bytes ch) ≡ true
+  -- the counts are the numbers of chased samples, 0 for a channel not there
+  pub lefts : left ≡ countOf (chasedFrames c a s bytes 0)
+  pub rights : right ≡ cond (ltb 1 c) (countOf (chasedFrames c a s bytes 1)) 0
+
+-- so it is for every sound of 16-bit samples, channels and align that encoding accepts
+unfoldable pub Quality : Type 0
+Quality =
+    (s : List ℤ) (c a room : ℕ) (w : Written) → Sixteen s → encoding s c a room ≡ Blocks w
+    → Heard s c a (encodedBytes c a s) (w .left .0) (w .right .0)
