@@ -22,16 +22,18 @@ use Rattle.blocks.specs.Block.{samplesPerBlock, channelPart, statesIn}
 use Rattle.coder.specs.Part.{chasedPart, countOf}
 use Rattle.units.specs.declared.Verdict.{Verdict}
 use Rattle.units.specs.declared.Verdict.the-variants.{Accepted}
+use Rattle.units.specs.Refusals.{verdictNumber}
+use Rattle.units.proofs.Laws.{demand-row}
 use Rattle.ima.specs.declared.Written.{Written}
 use Rattle.ima.specs.declared.Encoded.{Encoded}
 use Rattle.ima.specs.declared.Encoded.the-variants.{Blocks, Refused}
 use Rattle.ima.specs.Encoding.{blockOf, openIndex, partOf, chasedBlock, blockBytes, blocksFor, encodedBytes, chasedIn, chasedCount, encodeVerdict}
-use Rattle.ima.specs.Answer.{writtenOf, answer, encoding}
-use Rattle.ima.specs.Demands.{frameOf, blockIn, heardAt, chasedAt, chasedFrames, Heard, Quality}
+use Rattle.ima.specs.Answer.{writtenOf, answer, encoding, encodedNumber}
+use Rattle.ima.specs.Demands.{frameOf, blockIn, heardAt, chasedAt, chasedFrames, Heard, Quality, trackedPart, trackedAt, Tracked, Numbered}
 use Rattle.ima.proofs.Settling.{Codable}
 use Rattle.ima.proofs.Answers.{Settled, settled-says}
 use Rattle.ima.proofs.Blocks.{per-some, length-block, length-part}
-use Rattle.ima.proofs.Heard.{trackedPart, part-heard, per-is, part-back, block-back}
+use Rattle.ima.proofs.Heard.{part-heard, per-is, part-back, block-back}
 use Rattle.ima.proofs.Frames.{block-sixteen, block-frame, open-below, calm-take, blocks-calm, same-block, one-before, blocks-enough, block-among}
 
 abbrev silent : State
@@ -68,7 +70,7 @@ module _ (c a : ℕ) (s : List ℤ) (ch : ℕ) (w : Codable c a) (z : Sixteen s)
   bytes = encodedBytes c a s
 
   -- what is heard is what encoding tracked
-  pub heard-tracked : (f : ℕ) → f < length s / c
+  heard-tracked : (f : ℕ) → f < length s / c
       → heardAt c a bytes ch f ≡ getD (trackedPart (openIndex c a s ch (f / p)) (blockOf c a s ch (f / p))) (f % p) silent
   unfolding heardAt partOf
   heard-tracked f h =
@@ -205,3 +207,19 @@ quality s c a room w z e =
       lefts = ap (λ (u : Written). u .left .0) (sym (v .1)) ∙ counted-left c a s (t .fine) z (t .whole);
       rights = ap (λ (u : Written). u .right .0) (sym (v .1)) ∙ counted c a s 1 (t .fine) z (t .whole);
     }
+
+-- and decoding gives what encoding tracked
+pub tracked-back : Tracked
+unfolding Tracked encoding trackedAt
+tracked-back s c a room w z e ch f l h =
+    let t : Settled (length s) c a room = settled-says (length s) c a room (accepted (encodeVerdict (length s) c a room) e .0) in
+    heard-tracked c a s ch (t .fine) z (t .whole) l f h
+
+-- ---- the number of an answer: each demand is a row
+answer-number : (v : Verdict) (u : Written) → encodedNumber (answer v u) ≡ verdictNumber v
+answer-number Accepted u = refl
+answer-number (Verdict.Refused r) u = refl
+
+pub numbered : Numbered
+unfolding Numbered encoding encodeVerdict
+numbered s c a room = answer-number (encodeVerdict (length s) c a room) (writtenOf c a s) ∙ simp demand-row

@@ -25,7 +25,7 @@ use Rattle.steps.proofs.Machine.{run-tracks, sixteen-none, sixteen-more, sixtee
 use Rattle.blocks.specs.Block.{samplesPerBlock, channelPart, opened, nibbles, statesIn}
 use Rattle.coder.specs.Part.{taken, packed, headBytes, codedPart, closingIndex}
 use Rattle.ima.specs.Encoding.{blockOf, openIndex, partOf, blockBytes, blocksFor, encodedBytes}
-use Rattle.ima.specs.Demands.{blockIn, frameOf}
+use Rattle.ima.specs.Demands.{blockIn, trackedPart}
 use Rattle.ima.proofs.Settling.{Codable}
 use Rattle.ima.proofs.Blocks.{per-mono, per-stereo, length-block}
 use Rattle.ima.proofs.Loops.{length-coded, length-mono, length-stereo}
@@ -53,11 +53,7 @@ behind-head : (x : ℤ) (i : ℕ) (r : List ℕ) → drop 4 (headBytes x i ++ r)
 unfolding headBytes sampleBytes bytesOf
 behind-head x i r = refl
 
--- ---- the states that encoding goes through over a block of a channel
-unfoldable pub trackedPart : ℕ → List ℤ → List State
-trackedPart i [] = []
-trackedPart i (x ∷ xs) = record { last = x; index = i } ∷ trackedAll (record { last = x; index = i }) xs
-
+-- ---- a block of a channel
 pub part-heard : (i g : ℕ) (xs : List ℤ) → Sixteen xs → length xs ≡ 8 * g + 1 → statesIn (codedPart i xs) ≡ trackedPart i xs
 unfolding statesIn codedPart trackedPart
 part-heard i g [] s e = absurd (omega arith)

@@ -1,21 +1,22 @@
 -- Demand 3, for whole sounds: what is heard when the blocks that encoding wrote are decoded. Assumes nothing.
 use Prim.Native.Nat.{ℕ, _+_, _-_, _*_, _/_, _%_, _<_}
 use mathlib.Core.Path.{_≡_}
-use mathlib.Core.Bool.{Bool, true, cond, _&&_}
-use mathlib.Core.List.{List}
-use lib.Dec.{ltb}
-use lib.IntN.{ℤ, pos}
-use lib.ListN.{length, take, drop, getD}
+use mathlib.Core.Bool.{Bool, true, false, not, cond, _&&_}
+use mathlib.Core.List.{List, [], _∷_}
+use lib.Dec.{leb, ltb, eqb}
+use lib.IntN.{ℤ, pos, negsuc, natAbs, _-ℤ_}
+use lib.ListN.{length, take, drop, getD, replicate}
 use Rattle.lists.specs.Turns.{values}
 use Rattle.steps.specs.declared.State.{State}
-use Rattle.steps.specs.Code.{isChased}
+use Rattle.steps.specs.Code.{stepAt, isChased}
+use Rattle.steps.specs.Machine.{trackedAll}
 use Rattle.steps.specs.Quality.{Sixteen, Faithful, atMost}
 use Rattle.blocks.specs.Block.{samplesPerBlock, channelPart, statesIn}
 use Rattle.coder.specs.Part.{countOf}
 use Rattle.ima.specs.declared.Written.{Written}
 use Rattle.ima.specs.declared.Encoded.the-variants.{Blocks}
-use Rattle.ima.specs.Encoding.{encodedBytes}
-use Rattle.ima.specs.Answer.{encoding}
+use Rattle.ima.specs.Encoding.{blockOf, openIndex, blocksFor, encodedBytes, codable}
+use Rattle.ima.specs.Answer.{encoding, encodedNumber}
 
 -- frame f of channel ch of a sound s of c channels
 unfoldable pub frameOf : ℕ → List ℤ → ℕ → ℕ → ℤ
@@ -57,3 +58,43 @@ unfoldable pub Quality : Type 0
 Quality =
     (s : List ℤ) (c a room : ℕ) (w : Written) → Sixteen s → encoding s c a room ≡ Blocks w
     → Heard s c a (encodedBytes c a s) (w .left .0) (w .right .0)
+
+-- ---- decoding gives exactly what encoding tracked
+
+-- the states that encoding goes through over a block of a channel
+unfoldable pub trackedPart : ℕ → List ℤ → List State
+trackedPart i [] = []
+trackedPart i (x ∷ xs) = record { last = x; index = i } ∷ trackedAll (record { last = x; index = i }) xs
+
+-- channel ch as encoding has it after frame f
+unfoldable pub trackedAt : ℕ → ℕ → List ℤ → ℕ → ℕ → State
+trackedAt c a s ch f =
+    let k : ℕ = f / samplesPerBlock c a in
+    getD (trackedPart (openIndex c a s ch k) (blockOf c a s ch k)) (f % samplesPerBlock c a) (record { last = pos 0; index = 0 })
+
+unfoldable pub Tracked : Type 0
+Tracked =
+    (s : List ℤ) (c a room : ℕ) (w : Written) → Sixteen s → encoding s c a room ≡ Blocks w
+    → (ch f : ℕ) → ch < c → f < length s / c → heardAt c a (encodedBytes c a s) ch f ≡ trackedAt c a s ch f
+
+-- ---- the bounds are reached: 11 in succession, and an error of s/8 + 2
+
+-- a sound, mono in blocks of 12 bytes
+unfoldable pub Reached : Type 0
+Reached =
+    let rise : List ℤ = negsuc 32767 ∷ replicate 16 (pos 32767) in
+    let step : List ℤ = pos 0 ∷ pos 13 ∷ [] in
+    let t : State = heardAt 1 12 (encodedBytes 1 12 step) 0 0 in
+    (atMost 10 (chasedFrames 1 12 rise (encodedBytes 1 12 rise) 0) ≡ false)
+    × (chasedAt 1 12 step (encodedBytes 1 12 step) 0 1 ≡ false)
+    × (natAbs (heardAt 1 12 (encodedBytes 1 12 step) 0 1 .last -ℤ pos 13) ≡ stepAt (t .index) / 8 + 2)
+
+-- ---- the order of checks, in document 01's own numbers: 1, 9, 10, 14; 0 where the blocks are written
+unfoldable pub Numbered : Type 0
+Numbered =
+    (s : List ℤ) (c a room : ℕ)
+    → encodedNumber (encoding s c a room)
+    ≡ cond (not (leb (length s) 536870912)) 1
+    (cond (not (codable c a)) 9
+    (cond (not (eqb (length s % c) 0)) 10
+    (cond (not (leb (blocksFor c a (length s) * a) room)) 14 0)))

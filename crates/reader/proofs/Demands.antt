@@ -12,7 +12,8 @@ use Rattle.riff.specs.declared.Directory.{Directory}
 use Rattle.riff.specs.declared.Spot.{Spot}
 use Rattle.riff.specs.declared.Walked.{Walked}
 use Rattle.riff.specs.declared.Walked.the-variants.{Whole, Stopped}
-use Rattle.units.specs.Refusals.{numberOf, verdictNumber, demand}
+use Rattle.units.specs.Refusals.{numberOf, verdictNumber}
+use Rattle.units.proofs.Laws.{demand-row}
 use Rattle.riff.specs.Chunks.{badLength, noWave, badSize, headVerdict, isThere}
 use Rattle.riff.specs.Walk.{partOf, walkOf, opened, directoryOf}
 use Rattle.tables.specs.Cues.{noCue}
@@ -87,10 +88,6 @@ zero-past s =
     (λ d. record { cues = λ i h. cues-zero (cuePart s d) i h; plays = λ i h. plays-zero (playlistPart s d) i h })
 
 -- ---- the number: each demand is a row of the table
-demand-row : (b : Bool) (r : Refusal) (v : Verdict) → verdictNumber (demand b r v) ≡ cond (not b) (numberOf r) (verdictNumber v)
-demand-row true r v = refl
-demand-row false r v = refl
-
 taken-row : (a b : Bool) (v : Verdict) (m : Record) (w : List ℕ)
     → verdictNumber (readingOf (cond (a && b) (taken v m w) (refused FormatOrDataMissing)) .verdict) ≡ cond (not a || not b) 8 (verdictNumber v)
 taken-row true true Accepted m w = refl

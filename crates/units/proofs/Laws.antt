@@ -1,9 +1,16 @@
--- What a match on a refusal tells of its number. Assumes nothing.
-use mathlib.Core.Path.{_≡_, sym, ap, _∙_}
+-- What a match on a refusal tells of its number, and the number of a demand. Assumes nothing.
+use mathlib.Core.Path.{_≡_, refl, sym, ap, _∙_}
+use mathlib.Core.Bool.{Bool, true, false, not, cond}
 use Prim.Native.Nat.{ℕ}
 use Rattle.units.specs.declared.Refusal.{Refusal}
-use Rattle.units.specs.Refusals.{numberOf}
+use Rattle.units.specs.declared.Verdict.{Verdict}
+use Rattle.units.specs.Refusals.{numberOf, verdictNumber, demand}
 
 -- the arm of the row s gives n: the number of every refusal that is s
 pub numbered : {n : ℕ} (r s : Refusal) → r ≡ s → n ≡ numberOf s → n ≡ numberOf r
 numbered r s e t = t ∙ sym (ap numberOf e)
+
+-- each demand is a row of the table
+pub demand-row : (b : Bool) (r : Refusal) (v : Verdict) → verdictNumber (demand b r v) ≡ cond (not b) (numberOf r) (verdictNumber v)
+demand-row true r v = refl
+demand-row false r v = refl
