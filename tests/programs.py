@@ -1,7 +1,8 @@
 #!/usr/bin/env python3
 """Runs the programs, as `rt` has built them, on input that their stored test does not have.
 
-    tests/programs.py [COUNT [SEED]]       after `rt check` or `rt ci`; COUNT generated files are read
+    tests/programs.py [COUNT [SEED]]       after `rt check` or `rt ci`; COUNT generated files are read,
+                                           and a tenth as many sounds and blocks coded and decoded
 """
 import os
 import pathlib
@@ -10,6 +11,7 @@ import shutil
 import subprocess
 import sys
 
+import ima_sounds
 import many_files
 import second_reader
 import wave_files
@@ -60,32 +62,39 @@ def in_pieces(file):
         return run('wave_list', stdin=slow.stdout)
 
 
-def batches(files):
-    """The files as input of reader_vectors, as many at a time as it takes, and what it must write."""
+def read_files(count, seed):
+    """Generated files as entries of reader_vectors, each with the lines that the second reader says."""
+    for place, file in enumerate(many_files.files(count, seed)):
+        listed, left_out = second_reader.listing(file)
+        yield wave_files.labelled(str(place), file), [str(place)] + listed + left_out
+
+
+def batches(vectors):
+    """The entries of a program's input, as many at a time as it takes, and what it must write."""
     data, lines = b'', []
-    for place, file in enumerate(files):
-        entry = wave_files.labelled(str(place), file)
+    for entry, expected in vectors:
         if len(data) + len(entry) > 65536:
             yield data, lines
             data, lines = b'', []
-        listed, left_out = second_reader.listing(file)
-        data, lines = data + entry, lines + [str(place)] + listed + left_out
+        data, lines = data + entry, lines + expected
     yield data, lines
 
 
-def unlike(count, seed):
-    """The lines on which reader_vectors and the second reader differ."""
-    for data, lines in batches(many_files.files(count, seed)):
-        wrote = run('reader_vectors', input=data).splitlines()
+def unlike(name, vectors):
+    """The lines on which a program and the second reader or coder differ."""
+    for data, lines in batches(vectors):
+        wrote = run(name, input=data).splitlines()
         yield from (pair for pair in zip(wrote, lines) if pair[0] != pair[1])
         if len(wrote) != len(lines):
             yield f'{len(wrote)} lines', f'{len(lines)} lines'
 
 
 def main(count=20000, seed=1):
+    count, seed = int(count), int(seed)
     wrong = [f'wave_list on {label} wrote {wrote!r}' for label, wrote, expected in listings() if wrote != expected]
-    wrong += [f'reader_vectors wrote {wrote!r}, the second reader says {expected!r}'
-              for wrote, expected in unlike(int(count), int(seed))]
+    generated = {'reader_vectors': read_files(count, seed), 'ima_vectors': ima_sounds.many(count // 10, seed)}
+    wrong += [f'{name} wrote {wrote!r}, in Python it is {expected!r}'
+              for name, vectors in generated.items() for wrote, expected in unlike(name, vectors)]
     for line in wrong[:20]:
         print(f'tests/programs.py: {line}')
     return 1 if wrong else 0

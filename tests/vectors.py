@@ -10,7 +10,9 @@ import pathlib
 import struct
 import sys
 
+import ima_sounds
 import other_programs
+import second_ima
 import second_reader
 import wave_files
 from second_reader import mixed
@@ -102,12 +104,39 @@ def reader():
     return data, '\n'.join(lines) + '\n'
 
 
+def ima():
+    """The sounds and blocks of tests/ima_sounds.py."""
+    vectors = ima_sounds.all_vectors()
+    return b''.join(entry for entry, _ in vectors), ''.join(f'{line}\n' for _, lines in vectors for line in lines)
+
+
+def ima_other():
+    """libsndfile's blocks of each sound, and what sox hears in them; the chased samples by the second coder."""
+    names, lines = [], []
+    for path in sorted((CRATES / 'ima_other' / 'data').glob('*.wav')):
+        raw, heard = path.with_suffix('.raw').read_bytes(), path.with_suffix('.heard').read_bytes()
+        found = second_reader.walk(path.read_bytes())
+        _, channels, _, _, align, frames = second_reader.layout(found[b'fmt '][1])
+        blocks, size = found[b'data'][1], 2 * channels * frames
+        coded, left, right = second_ima.encode(struct.unpack(f'<{len(raw) // 2}h', raw), channels, align, len(blocks))
+        if coded != blocks:
+            raise ValueError(f'{path.name}: libsndfile and the second coder differ')
+        names += [path.name, path.with_suffix('.raw').name]
+        lines += [path.name, f'coded bytes {len(blocks)} mixed {mixed(blocks)}', f'chased left {left} right {right}']
+        lines += [f'decoded bytes 4096 mixed {mixed(heard[at:at + size].ljust(4096, bytes(1)))}'
+                  for at in range(0, len(heard), size)]
+    if not names:
+        raise ValueError('files are missing in ima_other/data')
+    return b'', '\n'.join(lines) + '\n', names
+
+
 def programs():
     """For each program its standard input, its arguments and what it must print."""
-    made = {f'{make.__name__}_vectors': (*make(), None) for make in (units, little, samples, reader)}
+    made = {f'{make.__name__}_vectors': (*make(), None) for make in (units, little, samples, reader, ima)}
     made['wave_list'] = wave_files.example(), '\n'.join(wave_files.EXAMPLE) + '\n', None
     others = list(other_programs.expected())
     made['other_programs'] = b'', ''.join(f'{name}\n{text}' for name, text in others), [name for name, _ in others]
+    made['ima_other'] = ima_other()
     return made
 
 

@@ -1,6 +1,6 @@
 -- The header of a channel: its four bytes, written one behind the other. Assumes nothing.
-use mathlib.Core.Path.{_≡_, refl, sym, ap, _∙_, subst}
-use mathlib.Core.List.{List, [], _∷_, _++_}
+use mathlib.Core.Path.{_≡_, ap, _∙_}
+use mathlib.Core.List.{List, [], _∷_}
 use Prim.Native.Nat.{ℕ, _+_, _≤_, _<_}
 use native.Mathlib.Omega.{arith}
 use lib.IntN.{ℤ}
@@ -32,12 +32,15 @@ module _ (x : ℤ) {d e : List ℕ} {to : ℕ} (p : Put d to (sampleBytes (back 
   head-put i f =
       let a : to + 3 ≡ to + 2 + 1 = omega arith in
       let q : Put e (to + 2) (i ∷ 0 ∷ []) (set (set e (to + 2) i) (to + 3) 0) =
-      subst (λ (k : ℕ). Put e (to + 2) (i ∷ 0 ∷ []) (set (set e (to + 2) i) k 0)) (sym a) (two-stores (omega (arith, same-room))) in
+      rw a (two-stores (omega (arith, same-room))) in
       let r : Put d to (sampleBytes x) e = rw (toZ-ofZ f) at p in
       put-next r q (omega (arith, length-sample x)) (omega arith)
 
-pub opening-here : (p : Channel) {x : ℤ} → SFits w16 x → record { state = record { last = back w16 x; index = p .state .index }; chased = p .chased } ≡ opening p x
+abbrev opens : Channel → ℤ → Channel
+opens p x = record { state = record { last = x; index = p .state .index }; chased = p .chased }
+
+pub opening-here : (p : Channel) {x : ℤ} → SFits w16 x → opens p (back w16 x) ≡ opening p x
 unfolding opening
-opening-here p {x} f = ap (λ (z : ℤ). record { state = record { last = z; index = p .state .index }; chased = p .chased }) (toZ-ofZ f)
+opening-here p f = ap (opens p) (toZ-ofZ f)
 
 pub ruleset heading = (head-room, head-put, opening-here)

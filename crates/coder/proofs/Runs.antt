@@ -1,22 +1,23 @@
--- Samples in two runs, one behind the other: the samples, their codes in bytes and the channel after them. Assumes nothing.
-use mathlib.Core.Path.{_≡_, refl, sym, ap, _∙_, subst}
-use mathlib.Core.Bool.{Bool, cond}
+-- Samples in two runs, one behind the other: their codes in bytes, and the channel after them. Assumes nothing.
+use mathlib.Core.Path.{_≡_, refl, ap, _∙_}
+use mathlib.Core.Bool.{Bool}
 use mathlib.Core.List.{List, [], _∷_, _++_}
-use Prim.Native.Nat.{ℕ, zero, suc, _+_, _-_, _*_, _/_, _≤_, _<_, min}
+use Prim.Native.Nat.{ℕ, zero, suc, _+_, _-_, _*_, min}
 use native.Mathlib.Omega.{arith}
-use native.Mathlib.Nat.{mul-suc, mul-zero, add-zero, zero-add, sub-zero}
+use native.Mathlib.Nat.{mul-suc, mul-zero, zero-add, sub-zero}
 use lib.IntN.{ℤ, pos}
-use lib.ListN.{length, getD, take, drop}
-use lib.Seq.{take-nil, drop-at, take-at}
-use Rattle.lists.specs.Turns.{joined, inTurn}
+use lib.ListN.{length, getD, take}
+use lib.Seq.{take-nil}
+use Rattle.lists.specs.Turns.{inTurn}
 use Rattle.steps.specs.declared.State.{State}
 use Rattle.steps.specs.Machine.{codesOf, after, chasedOf}
 use Rattle.steps.proofs.Machine.{after-append, codes-append, chased-append, length-codes, length-chased}
 use Rattle.coder.specs.declared.Channel.{Channel}
 use Rattle.coder.specs.Part.{taken, packed, countOf, channelAfter}
-use Rattle.coder.proofs.Taken.{length-taken}
+use Rattle.coder.proofs.Taken.{bytesOf}
 
-pub taken-append : (s : List ℤ) (stride last x n m : ℕ) → taken s stride last x (n + m) ≡ taken s stride last x n ++ taken s stride last (x + stride * n) m
+pub taken-append : (s : List ℤ) (stride last x n m : ℕ)
+    → taken s stride last x (n + m) ≡ taken s stride last x n ++ taken s stride last (x + stride * n) m
 unfolding taken
 taken-append s stride last x zero m =
     let e : x ≡ x + stride * 0 = omega (arith, mul-zero stride) in
@@ -26,7 +27,8 @@ taken-append s stride last x (suc n) m =
     let e : x + stride + stride * n ≡ x + stride * suc n = omega (arith, mul-suc stride n) in
     ap (taken s stride last x) a
     ∙ ap (λ (l : List ℤ). getD s (min x last) (pos 0) ∷ l)
-    (taken-append s stride last (x + stride) n m ∙ ap (λ (k : ℕ). taken s stride last (x + stride) n ++ taken s stride last k m) e)
+    (taken-append s stride last (x + stride) n m
+    ∙ ap (λ (k : ℕ). taken s stride last (x + stride) n ++ taken s stride last k m) e)
 
 -- ---- codes in bytes, where the first run has an even number
 pub packed-append : (n : ℕ) (ks ls : List ℕ) → length ks ≡ 2 * n → packed (ks ++ ls) ≡ packed ks ++ packed ls
@@ -45,9 +47,11 @@ length-packed zero (k ∷ l ∷ ks) e = absurd (omega arith)
 length-packed (suc n) (k ∷ l ∷ ks) e = ap suc (length-packed n ks (omega arith))
 
 -- ---- the channel after them
-pub count-append : (n : ℕ) (bs cs : List Bool) → countOf (take n (bs ++ cs)) ≡ countOf (take n bs) + countOf (take (n - length bs) cs)
+pub count-append : (n : ℕ) (bs cs : List Bool)
+    → countOf (take n (bs ++ cs)) ≡ countOf (take n bs) + countOf (take (n - length bs) cs)
 unfolding countOf
-count-append n [] cs = omega (arith, ap countOf (take-nil {A = Bool} n), ap (λ (k : ℕ). countOf (take k cs)) (sub-zero n))
+count-append n [] cs =
+    omega (arith, ap countOf (take-nil {A = Bool} n), ap (λ (k : ℕ). countOf (take k cs)) (sub-zero n))
 count-append zero (b ∷ bs) cs =
     let e : zero - suc (length bs) ≡ 0 = omega arith in
     omega (arith, ap (λ (k : ℕ). countOf (take k cs)) e)
@@ -55,19 +59,40 @@ count-append (suc n) (b ∷ bs) cs =
     let e : suc n - suc (length bs) ≡ n - length bs = omega arith in
     omega (arith, count-append n bs cs, ap (λ (k : ℕ). countOf (take k cs)) e)
 
-pub channel-append : (t : Channel) (n : ℕ) (xs ys : List ℤ) → channelAfter t n (xs ++ ys) ≡ channelAfter (channelAfter t n xs) (n - length xs) ys
+pub channel-append : (t : Channel) (n : ℕ) (xs ys : List ℤ)
+    → channelAfter t n (xs ++ ys) ≡ channelAfter (channelAfter t n xs) (n - length xs) ys
 unfolding channelAfter
 channel-append t n xs ys =
+    let all : List Bool = chasedOf (t .state) (xs ++ ys) in
     let bs : List Bool = chasedOf (t .state) xs in
     let cs : List Bool = chasedOf (after (t .state) xs) ys in
-    let e : t .chased + countOf (take n (chasedOf (t .state) (xs ++ ys))) ≡ t .chased + countOf (take n bs) + countOf (take (n - length xs) cs) =
-    omega (arith, ap (λ (l : List Bool). countOf (take n l)) (chased-append (t .state) xs ys), count-append n bs cs, ap (λ (k : ℕ). countOf (take (n - k) cs)) (length-chased (t .state) xs)) in
-    ap (λ (k : State). record { state = k; chased = t .chased + countOf (take n (chasedOf (t .state) (xs ++ ys))) }) (after-append (t .state) xs ys)
+    let d : all ≡ bs ++ cs = chased-append (t .state) xs ys in
+    let l : length bs ≡ length xs = length-chased (t .state) xs in
+    let e : t .chased + countOf (take n all) ≡ t .chased + countOf (take n bs) + countOf (take (n - length xs) cs) =
+    omega (
+      arith,
+      ap (λ (l : List Bool). countOf (take n l)) d,
+      count-append n bs cs,
+      ap (λ (k : ℕ). countOf (take (n - k) cs)) l,
+    ) in
+    ap (λ (k : State). record { state = k; chased = t .chased + countOf (take n all) }) (after-append (t .state) xs ys)
     ∙ ap (λ (k : ℕ). record { state = after (after (t .state) xs) ys; chased = k }) e
 
-pub bytes-append : (t : State) (n : ℕ) (xs ys : List ℤ) → length xs ≡ 2 * n → packed (codesOf t (xs ++ ys)) ≡ packed (codesOf t xs) ++ packed (codesOf (after t xs) ys)
+pub bytes-append : (t : State) (n : ℕ) (xs ys : List ℤ) → length xs ≡ 2 * n
+    → bytesOf t (xs ++ ys) ≡ bytesOf t xs ++ bytesOf (after t xs) ys
 bytes-append t n xs ys e =
     ap packed (codes-append t xs ys) ∙ packed-append n (codesOf t xs) (codesOf (after t xs) ys) (length-codes t xs ∙ e)
 
-pub length-bytes : (t : State) (n : ℕ) (xs : List ℤ) → length xs ≡ 2 * n → length (packed (codesOf t xs)) ≡ n
+pub length-bytes : (t : State) (n : ℕ) (xs : List ℤ) → length xs ≡ 2 * n → length (bytesOf t xs) ≡ n
 length-bytes t n xs e = length-packed n (codesOf t xs) (length-codes t xs ∙ e)
+
+-- ---- the two channels of a sound, whose samples stand at every other index
+abbrev pub lefts : List ℤ → ℕ → ℕ → List ℤ
+lefts s x n = taken s 2 (length s - 2) x n
+
+abbrev pub rights : List ℤ → ℕ → ℕ → List ℤ
+rights s x n = taken s 2 (length s - 1) (x + 1) n
+
+-- their bytes, four of each in turn, for n groups of eight frames from index x on
+abbrev pub groupsOf : List ℤ → State → State → ℕ → ℕ → List ℕ
+groupsOf s t u x n = inTurn 4 n (bytesOf t (lefts s x (8 * n)) ∷ bytesOf u (rights s x (8 * n)) ∷ [])

@@ -1,21 +1,38 @@
--- The samples of a channel, and the channel after them: how many there are, where the last one does not matter, and in two runs.
--- Assumes nothing.
-use mathlib.Core.Path.{_≡_, refl, sym, ap, _∙_, subst}
+-- The samples of a channel: how many there are, and where the last one's index does not matter. Assumes nothing.
+use mathlib.Core.Path.{_≡_, refl, sym, ap, _∙_}
 use mathlib.Core.Bool.{Bool}
-use mathlib.Core.List.{List, [], _∷_, _++_}
+use mathlib.Core.List.{List, [], _∷_}
 use Prim.Native.Nat.{ℕ, zero, suc, _+_, _-_, _*_, _≤_, _<_, min}
 use native.Mathlib.Omega.{arith}
-use native.Mathlib.Nat.{mul-suc, mul-zero, add-zero, mul-le-mul-left}
+use native.Mathlib.Nat.{mul-suc, mul-le-mul-left}
 use lib.IntN.{ℤ, pos}
-use lib.ListN.{length, getD, take, drop, length-append}
-use lib.Seq.{take-all, take-append-add, take-append-le}
+use lib.ListN.{length, getD, take}
+use lib.Seq.{take-all, take-nil}
 use Rattle.little.specs.Writing.{Put}
 use Rattle.steps.specs.declared.State.{State}
-use Rattle.steps.specs.Code.{tracked, isChased}
 use Rattle.steps.specs.Machine.{codesOf, after, chasedOf}
 use Rattle.steps.proofs.Machine.{length-chased}
 use Rattle.coder.specs.declared.Channel.{Channel}
 use Rattle.coder.specs.Part.{taken, packed, countOf, channelAfter}
+
+abbrev pub sample : List ℤ → ℕ → ℤ
+sample s x = getD s x (pos 0)
+
+-- the bytes of samples
+abbrev pub bytesOf : State → List ℤ → List ℕ
+bytesOf t xs = packed (codesOf t xs)
+
+-- of no samples
+module _ (s : List ℤ) (stride last x : ℕ) where
+  pub bytes-none : (t : State) → bytesOf t (taken s stride last x 0) ≡ []
+  unfolding taken packed codesOf
+  bytes-none t = refl
+
+  pub channel-none : (t : Channel) (n : ℕ) → channelAfter t n (taken s stride last x 0) ≡ t
+  unfolding taken channelAfter after chasedOf countOf
+  channel-none t n =
+      let e : t .chased + countOf (take n []) ≡ t .chased = omega (arith, ap countOf (take-nil {A = Bool} n)) in
+      ap (λ (k : ℕ). record { state = t .state; chased = k }) e
 
 pub length-taken : (s : List ℤ) (stride last x n : ℕ) → length (taken s stride last x n) ≡ n
 unfolding taken
@@ -23,14 +40,16 @@ length-taken s stride last x zero = refl
 length-taken s stride last x (suc n) = ap suc (length-taken s stride last (x + stride) n)
 
 -- where n samples are there, the last one's index does not matter
-pub taken-same : (s : List ℤ) (stride k l x n : ℕ) → 1 ≤ stride → stride * n ≤ k + stride - x → stride * n ≤ l + stride - x → taken s stride k x n ≡ taken s stride l x n
+taken-same : (s : List ℤ) (stride k l x n : ℕ) → 1 ≤ stride → stride * n ≤ k + stride - x → stride * n ≤ l + stride - x
+    → taken s stride k x n ≡ taken s stride l x n
 unfolding taken
 taken-same s stride k l x zero o g h = refl
 taken-same s stride k l x (suc n) o g h =
     let m : stride * suc n ≡ stride * n + stride = mul-suc stride n in
     let e : min x k ≡ min x l = omega arith in
-    ap (λ (i : ℕ). getD s i (pos 0) ∷ taken s stride k (x + stride) n) e
-    ∙ ap (λ (r : List ℤ). getD s (min x l) (pos 0) ∷ r) (taken-same s stride k l (x + stride) n o (omega arith) (omega arith))
+    ap (λ (i : ℕ). sample s i ∷ taken s stride k (x + stride) n) e
+    ∙ ap (λ (r : List ℤ). sample s (min x l) ∷ r)
+    (taken-same s stride k l (x + stride) n o (omega arith) (omega arith))
 
 -- ---- a channel of which so many samples are there
 module _ (stride last left at n : ℕ) (h : 2 * n ≤ left) (g : stride * left ≤ last + stride - at) where
@@ -44,16 +63,22 @@ module _ (stride last left at n : ℕ) (h : 2 * n ≤ left) (g : stride * left �
     there-same : taken s stride (length s - 1) at (2 * n) ≡ taken s stride last at (2 * n)
     there-same = taken-same s stride (length s - 1) last at (2 * n) o (omega (arith, all-there)) all-there
 
-    pub there-after : (t : Channel) {r : Channel} → r ≡ channelAfter t (2 * n) (taken s stride (length s - 1) at (2 * n)) → r ≡ channelAfter t left (taken s stride last at (2 * n))
+    pub there-after : (t : Channel) {r : Channel}
+        → r ≡ channelAfter t (2 * n) (taken s stride (length s - 1) at (2 * n))
+        → r ≡ channelAfter t left (taken s stride last at (2 * n))
     unfolding channelAfter
-    there-after t {r} e =
+    there-after t e =
         let xs : List ℤ = taken s stride last at (2 * n) in
-        let l : length (chasedOf (t .state) xs) ≡ 2 * n = length-chased (t .state) xs ∙ length-taken s stride last at (2 * n) in
-        e ∙ ap (channelAfter t (2 * n)) there-same
+        let bs : List Bool = chasedOf (t .state) xs in
+        let l : length bs ≡ 2 * n = length-chased (t .state) xs ∙ length-taken s stride last at (2 * n) in
+        e
+        ∙ ap (channelAfter t (2 * n)) there-same
         ∙ ap (λ (k : List Bool). record { state = after (t .state) xs; chased = t .chased + countOf k })
-        (take-all (2 * n) (chasedOf (t .state) xs) (omega arith) ∙ sym (take-all left (chasedOf (t .state) xs) (omega arith)))
+        (take-all (2 * n) bs (omega arith) ∙ sym (take-all left bs (omega arith)))
 
-    pub there-put : (t : State) {d e : List ℕ} {to : ℕ} → Put d to (packed (codesOf t (taken s stride (length s - 1) at (2 * n)))) e → Put d to (packed (codesOf t (taken s stride last at (2 * n)))) e
-    there-put t {d} {e} {to} p = subst (λ (xs : List ℤ). Put d to (packed (codesOf t xs)) e) there-same p
+    pub there-put : (t : State) {d e : List ℕ} {to : ℕ}
+        → Put d to (bytesOf t (taken s stride (length s - 1) at (2 * n))) e
+        → Put d to (bytesOf t (taken s stride last at (2 * n))) e
+    there-put t p = rw there-same at p
 
 pub ruleset channeling = (there-inside, there-after, there-put)

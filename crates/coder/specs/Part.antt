@@ -5,12 +5,11 @@ use mathlib.Core.List.{List, [], _∷_, _++_}
 use lib.IntN.{ℤ, pos}
 use lib.ListN.{getD, take}
 use Rattle.samples.specs.Sound.{sampleBytes}
-use Rattle.steps.specs.declared.State.{State}
 use Rattle.steps.specs.Machine.{codesOf, after, chasedOf}
 use Rattle.coder.specs.declared.Channel.{Channel}
 
--- n samples of a channel, the first at index x of the sound and each of the others a stride further; the channel's last one is at
--- index last, and past it that one is repeated
+-- n samples of a channel, the first at index x of the sound and each of the others a stride further; the channel's last
+-- one is at index last, and past it that one is repeated
 unfoldable pub taken : List ℤ → ℕ → ℕ → ℕ → ℕ → List ℤ
 taken s stride last x zero = []
 taken s stride last x (suc n) = getD s (min x last) (pos 0) ∷ taken s stride last (x + stride) n

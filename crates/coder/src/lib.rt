@@ -28,7 +28,7 @@ pub struct Channels {
     pub right: Channel,
 }
 
-// Two samples coded: their codes in a byte, whether each is chased, and the channel after them.
+// Two samples coded: their codes in a byte, whether each is chased, and the state after them.
 pub struct Two {
     pub byte: u8,
     pub first: bool,
@@ -68,8 +68,8 @@ fn less(a: usize, b: usize) -> usize
     a - b
 }
 
-// Codes two samples into each of n bytes, the samples from index `at` on, a stride apart; all of them
-// are there.
+// Codes n bytes of a channel, two samples to each, the samples from index `at` on, a stride apart; all of
+// them are there.
 fn real_bytes(
     sound: &[i16],
     at: usize,
@@ -106,7 +106,7 @@ fn real_bytes(
     }
 }
 
-// Codes two samples.
+// Codes two samples, the second from the state after the first.
 fn two_samples(state: State, first: i16, second: i16, table: &[u16; 89]) -> Two
     requires { ⌜ (state .index < 89) × (now table ≡ steps) ⌝ }
     ensures { λ r. ⌜ (r .byte ≡ codeFor state first + 16 * codeFor (tracked state first) second)
@@ -126,7 +126,8 @@ fn two_samples(state: State, first: i16, second: i16, table: &[u16; 89]) -> Two
     }
 }
 
-// The same where only the next `left` samples are there, and after them the one at index `last` again.
+// Codes n bytes of a channel as `real_bytes` does, where only the next `left` samples are there: past index
+// `last` the sample there is coded again, and only those that are there are counted.
 fn filled_bytes(
     sound: &[i16],
     at: usize,

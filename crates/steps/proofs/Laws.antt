@@ -2,12 +2,13 @@
 use mathlib.Core.Path.{_≡_, refl, _∙_, ap}
 use mathlib.Core.Bool.{Bool, true, false, cond}
 use Prim.Native.Nat.{ℕ, zero, suc, _+_, _-_, _*_, _/_, _%_, _≤_, _<_, min}
+use native.Mathlib.Nat.{zero-mul, one-mul, mul-le-mul-right}
 use native.Mathlib.Omega.{arith}
 use lib.Dec.{eqb}
 use lib.IntN.{ℤ, pos, negsuc, _+ℤ_, _-ℤ_}
 use lib.ListN.{getD}
 use mir.Syntax.{w16, w32}
-use mir.Val.{SFits, toZ}
+use mir.Val.{SFits, Fits, toZ}
 use mir.Facts.{toZ-ofZ, toZ-pos}
 use Rattle.samples.specs.Sound.{hold}
 use Rattle.samples.proofs.Signed.{Is, is-pos, is-negsuc, is-add, is-minus, is-neg, is-shift, is-unique, is-abs, is-read, fits, back, Near, near-fits, near-add, near-pos, fits-near}
@@ -16,15 +17,42 @@ use Rattle.steps.specs.declared.State.{State}
 use Rattle.steps.specs.Code.{stepAt, hasBit, sizeOf, signedBy, difference, changes, heldIndex, indexFrom, decoded}
 use Rattle.steps.specs.Quality.{InRange}
 
--- ---- the size of a difference
-pub size-is : (s k : ℕ) {a b c : ℕ} → a ≡ cond (eqb (k / 4 % 2) 1) s 0 → b ≡ cond (eqb (k / 2 % 2) 1) (s / 2) 0
-    → c ≡ cond (eqb (k % 2) 1) (s / 4) 0 → s / 8 + a + b + c ≡ sizeOf s k
+-- ---- the size of a difference: a bit is 0 or 1, and times its worth is its worth or nothing
+bit-is : (b v : ℕ) → b ≤ 1 → b * v ≡ cond (eqb b 1) v 0
+bit-is zero v h = zero-mul v
+bit-is (suc zero) v h = one-mul v
+bit-is (suc (suc b)) v h = absurd (omega arith)
+
+module _ (b v : ℕ) (h : b ≤ 1) where
+  pub bit-most : b * v ≤ v
+  bit-most = omega (arith, mul-le-mul-right v h, one-mul v)
+
+  pub bit-fits : v ≤ 32767 → Fits w32 (b * v)
+  bit-fits g = record { fits = omega (arith, bit-most) }
+
+pub ruleset bits = (bit-most, bit-fits)
+
+pub size-is : (s low : ℕ) {a b c : ℕ} → low < 8 → a ≡ low / 4 * s → b ≡ low / 2 % 2 * (s / 2) → c ≡ low % 2 * (s / 4)
+    → s / 8 + a + b + c ≡ sizeOf s low
 unfolding sizeOf hasBit
-size-is s k d e f =
-    let g : k / 1 ≡ k = omega arith in
-    simp (d, e, f, g)
+size-is s low h d e f =
+    let g : low / 4 % 2 ≡ low / 4 = omega arith in
+    let i : low / 1 ≡ low = omega arith in
+    let j : low / 4 ≤ 1 = omega arith in
+    let k : low / 2 % 2 ≤ 1 = omega arith in
+    let l : low % 2 ≤ 1 = omega arith in
+    simp (d, e, f, g, i, bit-is (low / 4) s j, bit-is (low / 2 % 2) (s / 2) k, bit-is (low % 2) (s / 4) l)
 
 pub ruleset sizing = (size-is)
+
+-- the lower three bits say the size
+pub size-low : (s k : ℕ) {n : ℕ} → n ≡ sizeOf s (k % 8) → n ≡ sizeOf s k
+unfolding sizeOf hasBit
+size-low s k h =
+    let a : k % 8 / 4 % 2 ≡ k / 4 % 2 = omega arith in
+    let b : k % 8 / 2 % 2 ≡ k / 2 % 2 = omega arith in
+    let c : k % 8 / 1 % 2 ≡ k / 1 % 2 = omega arith in
+    h ∙ simp (a, b, c)
 
 -- ---- a size as a difference
 module _ {n : ℕ} (h : n ≤ 65535) where
@@ -130,7 +158,7 @@ pub has-sign : (k : ℕ) → eqb (k / 8 % 2) 1 ≡ hasBit k 8
 unfolding hasBit
 has-sign k = refl
 
-pub ruleset decoding = (sum-fits, widened, decoded-is, has-sign)
+pub ruleset decoding = (sum-fits, widened, size-low, decoded-is, has-sign)
 
 -- ---- whatever the channel before
 pub decoded-in-range : (t : State) (k : ℕ) → InRange (decoded t k)

@@ -126,14 +126,23 @@ fn part(on: bool, value: u32) -> u32
     0
 }
 
-// The size of a code's difference, each quotient rounded down by itself.
-fn size(step: u32, code: u32) -> u32
-    requires { ⌜ step ≤ 32767 ⌝ }
-    ensures { λ r. ⌜ (r ≡ sizeOf step code) × (r ≤ 65535) ⌝ }
+// What a bit says: its worth, or 0.
+fn times(bit: u32, worth: u32) -> u32
+    requires { ⌜ (bit ≤ 1) × (worth ≤ 32767) ⌝ }
+    ensures { λ r. ⌜ (r ≡ bit * worth) × (r ≤ worth) ⌝ }
 {
-    let four = part(code / 4 % 2 == 1, step);
-    let two = part(code / 2 % 2 == 1, step / 2);
-    let one = part(code % 2 == 1, step / 4);
+    bit * worth
+}
+
+// The size of the difference of a code of which `low` are the lower three bits, each quotient rounded
+// down by itself.
+fn size(step: u32, low: u32) -> u32
+    requires { ⌜ (step ≤ 32767) × (low < 8) ⌝ }
+    ensures { λ r. ⌜ (r ≡ sizeOf step low) × (r ≤ 65535) ⌝ }
+{
+    let four = times(low / 4, step);
+    let two = times(low / 2 % 2, step / 2);
+    let one = times(low % 2, step / 4);
     step / 8 + four + two + one
 }
 
@@ -173,11 +182,12 @@ pub fn decode_code(state: State, code: u32, table: &[u16; 89]) -> State
 {
     let index = state.index;
     let step = table[index] as u32;
-    let difference = toward(code / 8 % 2 == 1, size(step, code));
+    let low = code % 8;
+    let difference = toward(code / 8 % 2 == 1, size(step, low));
     let last = samples::held(state.last as i32 + difference);
     State {
         last: last,
-        index: moved(index, code % 8),
+        index: moved(index, low),
     }
 }
 

@@ -1,0 +1,138 @@
+// For each two arguments, NAME.wav of another program and the sound NAME.raw that it was made of: codes
+// the sound as the format of NAME.wav says, and decodes each block of NAME.wav to 4,096 bytes of 16-bit PCM,
+// silence behind it; a block with more sound is left out. Prints how many bytes each of these gives and a
+// number mixed of them, and the chased samples. At most 65,536 bytes of a file are read.
+//
+// The chunks are taken as they stand: libsndfile writes a wrong fact count into stereo files.
+use ima::Encoded;
+use ima::Written;
+use riff::Directory;
+use riff::Walked;
+
+// How many bytes there are, and a number mixed of them.
+fn bytes_line(name: &[u8], bytes: &[u8]) {
+    show::word(name);
+    show::word(b" bytes ");
+    show::number(bytes.len() as u64);
+    show::word(b" mixed ");
+    show::number(show::mixed_bytes(bytes));
+    show::line();
+}
+
+// What coding wrote to a lent buffer, and the chased samples.
+fn written_lines(written: Written, out: &[u8]) {
+    bytes_line(b"coded", riff::bytes_from(out, 0, written.bytes.0));
+    show::word(b"chased left ");
+    show::number(written.left.0 as u64);
+    show::word(b" right ");
+    show::number(written.right.0 as u64);
+    show::line();
+}
+
+// Codes a sound of 16-bit PCM to a lent buffer.
+fn encode(raw: &[u8], channels: u16, align: u16, sound: &mut [i16], out: &mut [u8]) {
+    if sound.len() < raw.len() / 2 {
+        return;
+    }
+    samples::from_pcm16(raw, sound);
+    match ima::encode(sound, channels, align, out) {
+        Encoded::Blocks(written) => written_lines(written, out),
+        Encoded::Refused(refusal) => listing::refused(refusal),
+    }
+}
+
+// Codes a sound of at most 32,768 samples.
+fn encode_raw(raw: &[u8], channels: u16, align: u16) {
+    let n = raw.len() / 2;
+    if 32768 < n {
+        return;
+    }
+    let mut sound = [0i16; 32768];
+    let mut out = [0u8; 65536];
+    encode(raw, channels, align, &mut sound[..n], &mut out);
+}
+
+// Decodes a block to a lent sound, and puts that into lent bytes.
+fn decode(block: &[u8], channels: u16, frames: u16, sound: &mut [i16], raw: &mut [u8]) {
+    if !one_block::decode(block, channels, frames, sound, 0) {
+        return;
+    }
+    if raw.len() / 2 < sound.len() {
+        return;
+    }
+    samples::to_pcm16(sound, raw);
+    bytes_line(b"decoded", raw);
+}
+
+// Decodes each block.
+fn decode_all(blocks: &[u8], channels: u16, frames: u16, align: u16) {
+    let size = align as usize;
+    if size < 1 {
+        return;
+    }
+    let mut at = 0;
+    while at < blocks.len() {
+        let mut sound = [0i16; 2048];
+        let mut raw = [0u8; 4096];
+        decode(
+            riff::bytes_from(blocks, at, size),
+            channels,
+            frames,
+            &mut sound,
+            &mut raw,
+        );
+        at += size;
+    }
+}
+
+// Codes a sound as the format of a file says, and decodes the file's blocks.
+fn both(file: &[u8], places: Directory, raw: &[u8]) {
+    let format_spot = places.format;
+    let sound_spot = places.sound;
+    let format = formats::format_of(riff::part(file, format_spot, b""));
+    encode_raw(raw, format.channels, format.align);
+    let blocks = riff::part(file, sound_spot, b"");
+    decode_all(blocks, format.channels, format.samples, format.align);
+}
+
+// Reads the file of a name to a lent buffer, and answers how much of it there is.
+fn read_file(name: &[u8], out: &mut [u8]) -> usize {
+    let file = os::open_read(name);
+    if file < 0 {
+        os::fail(name);
+        return 0;
+    }
+    let n = io::read_full(file, out);
+    libc::close(file);
+    n
+}
+
+// Works on the file and the sound of two names.
+fn pair(wave: &[u8], raw: &[u8]) {
+    show::word(wave);
+    show::line();
+    let mut file = [0u8; 65536];
+    let n = read_file(wave, &mut file);
+    let bytes = riff::bytes_from(&file, 0, n);
+    let mut sound = [0u8; 65536];
+    let m = read_file(raw, &mut sound);
+    match riff::chunks(bytes) {
+        Walked::Whole(places) => both(bytes, places, riff::bytes_from(&sound, 0, m)),
+        Walked::Stopped(refusal) => listing::refused(refusal),
+    }
+}
+
+// Works on the files of two arguments.
+fn arguments(i: usize, j: usize) {
+    let mut wave = io::buffer();
+    let n = os::arg(i, &mut wave);
+    let mut raw = io::buffer();
+    let m = os::arg(j, &mut raw);
+    pair(&wave[..n], &raw[..m]);
+}
+
+fn main() {
+    for i in 0..os::arg_count() / 2 {
+        arguments(2 * i + 1, 2 * i + 2);
+    }
+}

@@ -1,0 +1,126 @@
+// Codes each sound and decodes each block on standard input, under its label. An entry of the input is
+// seven numbers of two bytes, the label and the data; all in 65,536 bytes. The numbers are: the length of
+// the label; 0 for a sound of 16-bit PCM, 1 for a block; the channels; align, or how many frames to
+// decode; the place to decode to; the room, in bytes or in samples, at most 16,384; the length of the data.
+//
+// Of a sound it prints the answer, a number mixed of the lent buffer and the buffer's first 32 bytes; of a
+// block the lent sound, or that it was not decoded. Before that each byte is 170, each sample 7.
+use ima::Encoded;
+use ima::Written;
+use libc::STDIN_FILENO;
+ghost use Prim.Native.Nat.{_≤_, _<_};
+ghost use lib.ListN.{length};
+
+// A name and a number after it.
+fn field(name: &[u8], value: u64) {
+    show::word(name);
+    show::number(value);
+}
+
+// What coding gave.
+fn written_line(written: Written) {
+    field(b"bytes ", written.bytes.0 as u64);
+    field(b" left ", written.left.0 as u64);
+    field(b" right ", written.right.0 as u64);
+    show::line();
+}
+
+// The answer of coding.
+fn answer_line(answer: Encoded) {
+    match answer {
+        Encoded::Blocks(written) => written_line(written),
+        Encoded::Refused(refusal) => listing::refused(refusal),
+    }
+}
+
+// A lent buffer: a number mixed of it, and its first bytes.
+fn buffer_line(out: &[u8]) {
+    field(b"mixed ", show::mixed_bytes(out));
+    show::word(b" starts");
+    show::bytes(riff::bytes_from(out, 0, 32));
+    show::line();
+}
+
+// Codes a sound to a lent buffer.
+fn encode(data: &[u8], channels: u16, align: u16, sound: &mut [i16], out: &mut [u8]) {
+    if sound.len() < data.len() / 2 {
+        return;
+    }
+    samples::from_pcm16(data, sound);
+    answer_line(ima::encode(sound, channels, align, out));
+    buffer_line(out);
+}
+
+// Codes a sound of at most 32,768 samples into so many bytes.
+fn encode_in(data: &[u8], channels: u16, align: u16, room: usize) {
+    let n = data.len() / 2;
+    if 32768 < n {
+        return;
+    }
+    if 16384 < room {
+        return;
+    }
+    let mut sound = [0i16; 32768];
+    let mut out = [170u8; 16384];
+    encode(data, channels, align, &mut sound[..n], &mut out[..room]);
+}
+
+// Decodes frames of a block to a place of a lent sound.
+fn decode(block: &[u8], channels: u16, frames: u16, place: u16, out: &mut [i16]) {
+    if !one_block::decode(block, channels, frames, out, place) {
+        show::word(b"not decoded\n");
+        return;
+    }
+    show::word(b"sound");
+    show::sound(out);
+    show::line();
+}
+
+// Decodes frames of a block into so many samples.
+fn decode_in(block: &[u8], channels: u16, frames: u16, place: u16, room: usize) {
+    if 16384 < room {
+        return;
+    }
+    let mut out = [7i16; 16384];
+    decode(block, channels, frames, place, &mut out[..room]);
+}
+
+// Works on the entry at a place, and answers how long it is.
+fn entry(input: &[u8], at: usize) -> usize
+    requires { ⌜ at < 65536 ⌝ }
+    ensures { λ r. ⌜ (1 ≤ r) × (r ≤ 131084) ⌝ }
+{
+    let label = little::u16_or_zero(input, at) as usize;
+    let kind = little::u16_or_zero(input, at + 2);
+    let channels = little::u16_or_zero(input, at + 4);
+    let align = little::u16_or_zero(input, at + 6);
+    let place = little::u16_or_zero(input, at + 8);
+    let room = little::u16_or_zero(input, at + 10) as usize;
+    let size = little::u16_or_zero(input, at + 12) as usize;
+    let data = riff::bytes_from(input, at + 14 + label, size);
+    show::word(riff::bytes_from(input, at + 14, label));
+    show::line();
+    if kind == 0 {
+        encode_in(data, channels, align, room);
+    } else {
+        decode_in(data, channels, align, place, room);
+    }
+    14 + label + size
+}
+
+// Works on every entry of the input.
+fn entries(input: &[u8])
+    requires { ⌜ length (now input) ≤ 65536 ⌝ }
+{
+    let mut at = 0;
+    while at < input.len() {
+        let size = entry(input, at);
+        at += size;
+    }
+}
+
+fn main() {
+    let mut buffer = [0u8; 65536];
+    let n = io::read_full(STDIN_FILENO, &mut buffer);
+    entries(&buffer[..n]);
+}
