@@ -191,40 +191,48 @@ pub fn decode_code(state: State, code: u32, table: &[u16; 89]) -> State
     }
 }
 
-// The lower three bits of a code for a magnitude: 4 if the step is in it, 2 if half the step is in
-// what that leaves, 1 if a quarter is in what that leaves.
-fn bits_for(step: u32, magnitude: u32) -> Bits
-    requires { ⌜ step ≤ 32767 ⌝ }
+// The lower three bits of a code for a magnitude that has the step in it: 4, and 2 if half the step is
+// in what that leaves, 1 if a quarter is in what that leaves.
+fn upper_bits(step: u32, magnitude: u32) -> Bits
+    requires { ⌜ (step ≤ 32767) × (step ≤ magnitude) ⌝ }
     ensures { λ r. ⌜ (r .code ≡ bitsFor step magnitude) × (r .code < 8) × (r .size ≡ sizeOf step (r .code)) × (r .size ≤ 65535) ⌝ }
 {
     let half = step / 2;
     let quarter = step / 4;
     let eighth = step / 8;
-    if step <= magnitude {
-        let rest = magnitude - step;
-        if half <= rest {
-            if quarter <= rest - half {
-                return Bits {
-                    code: 7,
-                    size: eighth + step + half + quarter,
-                };
-            }
+    let rest = magnitude - step;
+    if half <= rest {
+        if quarter <= rest - half {
             return Bits {
-                code: 6,
-                size: eighth + step + half,
-            };
-        }
-        if quarter <= rest {
-            return Bits {
-                code: 5,
-                size: eighth + step + quarter,
+                code: 7,
+                size: eighth + step + half + quarter,
             };
         }
         return Bits {
-            code: 4,
-            size: eighth + step,
+            code: 6,
+            size: eighth + step + half,
         };
     }
+    if quarter <= rest {
+        return Bits {
+            code: 5,
+            size: eighth + step + quarter,
+        };
+    }
+    Bits {
+        code: 4,
+        size: eighth + step,
+    }
+}
+
+// The same for a magnitude below the step.
+fn lower_bits(step: u32, magnitude: u32) -> Bits
+    requires { ⌜ (step ≤ 32767) × (magnitude < step) ⌝ }
+    ensures { λ r. ⌜ (r .code ≡ bitsFor step magnitude) × (r .code < 8) × (r .size ≡ sizeOf step (r .code)) × (r .size ≤ 65535) ⌝ }
+{
+    let half = step / 2;
+    let quarter = step / 4;
+    let eighth = step / 8;
     if half <= magnitude {
         if quarter <= magnitude - half {
             return Bits {
@@ -247,6 +255,17 @@ fn bits_for(step: u32, magnitude: u32) -> Bits
         code: 0,
         size: eighth,
     }
+}
+
+// The lower three bits of a code for a magnitude.
+fn bits_for(step: u32, magnitude: u32) -> Bits
+    requires { ⌜ step ≤ 32767 ⌝ }
+    ensures { λ r. ⌜ (r .code ≡ bitsFor step magnitude) × (r .code < 8) × (r .size ≡ sizeOf step (r .code)) × (r .size ≤ 65535) ⌝ }
+{
+    if step <= magnitude {
+        return upper_bits(step, magnitude);
+    }
+    lower_bits(step, magnitude)
 }
 
 // Codes a difference of a magnitude, downward or upward.
