@@ -7,8 +7,8 @@ use native.Mathlib.Nat.{add-zero}
 use native.Mathlib.Omega.{arith}
 use lib.IntN.{ℤ}
 use lib.ListN.{length, take, drop, getD, set}
-use mir.Syntax.{w16}
-use mir.Val.{SFits}
+use mir.Syntax.{w8, w16, w32}
+use mir.Val.{Fits, SFits}
 use mir.Facts.{toZ-ofZ}
 use Rattle.little.specs.Writing.{Put}
 use Rattle.little.proofs.Filling.{Filled, drop-next, two-stores, four-stores, filled-none, filled-store, filled-piece, filled-put}
@@ -20,18 +20,22 @@ use Rattle.steps.specs.Machine.{run}
 use Rattle.blocks.specs.Block.{channelPart, nibbles, heard}
 use Rattle.blocks.proofs.Parts.{codes-long, code-at}
 
--- ---- a channel after the codes of a byte, low nibble first
-abbrev pub lowOf : State → ℕ → State
+-- ---- a channel after each code of a byte, low nibble first
+abbrev lowOf : State → ℕ → State
 lowOf t byte = decoded t (byte % 16)
 
-abbrev pub highOf : State → ℕ → State
+abbrev highOf : State → ℕ → State
 highOf t byte = decoded (lowOf t byte) (byte / 16)
 
-pub high-is : (t : State) {x y : State} (byte : ℕ) → x ≡ lowOf t byte → y ≡ decoded x (byte / 16) → y ≡ highOf t byte
-high-is t byte e f = f ∙ ap (λ (u : State). decoded u (byte / 16)) e
+pub high-fits : (s : List ℕ) (i : ℕ) → ((k : ℕ) → Fits w8 (getD s k 0)) → Fits w32 (getD s i 0 / 16)
+high-fits s i f = let b = f i .fits in record { fits = omega arith }
+
+-- the second code goes on from the channel after the first
+high-is : (t : State) {x y : State} (byte : ℕ) → x ≡ lowOf t byte → y ≡ decoded x (byte / 16) → highOf t byte ≡ y
+high-is t byte e f = sym (f ∙ ap (λ (u : State). decoded u (byte / 16)) e)
 
 -- what is heard of byte i
-pub heard-next : (t : State) (s : List ℕ) (i : ℕ) → i < length s
+heard-next : (t : State) (s : List ℕ) (i : ℕ) → i < length s
     → heard t (drop i s)
     ≡ lowOf t (getD s i 0) .last ∷ highOf t (getD s i 0) .last ∷ heard (highOf t (getD s i 0)) (drop (i + 1) s)
 unfolding heard run nibbles
@@ -62,14 +66,16 @@ module _ {s : List ℕ} {frames : ℕ} {out₀ : List ℤ} {at : ℕ} {t₀ : St
     pub single-second : 2 ≤ n → to + 1 < length out
     single-second h = omega (arith, w .room)
 
-    module _ (h : 2 ≤ n) {x y : State} (e : x ≡ lowOf t (getD s i 0)) (f : y ≡ highOf t (getD s i 0)) where
+    module _ (h : 2 ≤ n) {x y : State}
+        (e : x ≡ decoded t (getD s i 0 % 16)) (f : y ≡ decoded x (getD s i 0 / 16)) where
       single-two : oneOf s n t i ≡ (x .last ∷ y .last ∷ []) ++ oneOf s (n - 2) y (i + 1)
       unfolding inTurn joined
       single-two =
           let m : n ≡ suc (suc (n - 2)) = omega arith in
+          let g : highOf t (getD s i 0) ≡ y = high-is t (getD s i 0) e f in
           ap (λ (k : ℕ). oneOf s k t i) m
           ∙ ap (λ (l : List ℤ). inTurn 1 (suc (suc (n - 2))) (l ∷ [])) (heard-next t s i (single-byte h))
-          ∙ (λ j. sym e j .last ∷ sym f j .last ∷ oneOf s (n - 2) (sym f j) (i + 1))
+          ∙ (λ j. sym e j .last ∷ g j .last ∷ oneOf s (n - 2) (g j) (i + 1))
 
       -- a turn: the two frames of a byte
       pub single-turn : y .index < 89 → SFits w16 (x .last) → SFits w16 (y .last)
@@ -93,7 +99,7 @@ module _ {s : List ℕ} {frames : ℕ} {out₀ : List ℤ} {at : ℕ} {t₀ : St
       pub single-last : i < length s
       single-last = omega (arith, w .codes)
 
-      module _ {x : State} (e : x ≡ lowOf t (getD s i 0)) where
+      module _ {x : State} (e : x ≡ decoded t (getD s i 0 % 16)) where
         single-one : oneOf s n t i ≡ x .last ∷ []
         unfolding inTurn joined
         single-one =
@@ -114,7 +120,7 @@ module _ {s : List ℕ} {frames : ℕ} {out₀ : List ℤ} {at : ℕ} {t₀ : St
     pub single-long : length out ≡ length out₀
     single-long = w .filled .long
 
-pub ruleset single = (single-begins, single-byte, single-second, single-turn, single-last, single-odd, single-even, single-long)
+pub ruleset single = (high-fits, single-begins, single-byte, single-second, single-turn, single-last, single-odd, single-even, single-long)
 
 -- ---- two channels: n frames are left, from byte i of each part of s on
 abbrev partOf : List ℕ → ℕ → List ℕ
@@ -185,16 +191,17 @@ module _ {s : List ℕ} {frames : ℕ} {out₀ : List ℤ} {at : ℕ} {l₀ r₀
       right-next = rw (sym right-is) (heard-next r (partOf s 1) i (within 1 (omega arith)))
 
     module _ (h : 2 ≤ n) {a b c d : State}
-        (e : a ≡ lowOf l (getD s (placeOf i) 0)) (f : c ≡ highOf l (getD s (placeOf i) 0))
-        (j : b ≡ lowOf r (getD s (placeOf i + 4) 0)) (k : d ≡ highOf r (getD s (placeOf i + 4) 0)) where
+        (e : a ≡ decoded l (getD s (placeOf i) 0 % 16)) (f : b ≡ decoded r (getD s (placeOf i + 4) 0 % 16))
+        (j : c ≡ decoded a (getD s (placeOf i) 0 / 16)) (k : d ≡ decoded b (getD s (placeOf i + 4) 0 / 16)) where
       double-two : bothOf s n l r i ≡ (a .last ∷ b .last ∷ c .last ∷ d .last ∷ []) ++ bothOf s (n - 2) c d (i + 1)
       unfolding inTurn joined
       double-two =
           let m : n ≡ suc (suc (n - 2)) = omega arith in
+          let x : highOf l (getD s (placeOf i) 0) ≡ c = high-is l (getD s (placeOf i) 0) e j in
+          let y : highOf r (getD s (placeOf i + 4) 0) ≡ d = high-is r (getD s (placeOf i + 4) 0) f k in
           ap (λ (k : ℕ). bothOf s k l r i) m
           ∙ (λ q. inTurn 1 (suc (suc (n - 2))) (left-next (omega arith) q ∷ right-next (omega arith) q ∷ []))
-          ∙ (λ q. sym e q .last ∷ sym j q .last ∷ sym f q .last ∷ sym k q .last
-          ∷ bothOf s (n - 2) (sym f q) (sym k q) (i + 1))
+          ∙ (λ q. sym e q .last ∷ sym f q .last ∷ x q .last ∷ y q .last ∷ bothOf s (n - 2) (x q) (y q) (i + 1))
 
       -- a turn: the two frames of a byte of each channel
       pub double-turn : c .index < 89 → d .index < 89
@@ -225,7 +232,8 @@ module _ {s : List ℕ} {frames : ℕ} {out₀ : List ℤ} {at : ℕ} {l₀ r₀
       pub double-last : to + 1 < length out
       double-last = omega (arith, w .room)
 
-      module _ {a b : State} (e : a ≡ lowOf l (getD s (placeOf i) 0)) (j : b ≡ lowOf r (getD s (placeOf i + 4) 0)) where
+      module _ {a b : State}
+          (e : a ≡ decoded l (getD s (placeOf i) 0 % 16)) (j : b ≡ decoded r (getD s (placeOf i + 4) 0 % 16)) where
         double-one : bothOf s n l r i ≡ a .last ∷ b .last ∷ []
         unfolding inTurn joined
         double-one =
@@ -250,4 +258,4 @@ module _ {s : List ℕ} {frames : ℕ} {out₀ : List ℤ} {at : ℕ} {l₀ r₀
     pub double-long : length out ≡ length out₀
     double-long = w .filled .long
 
-pub ruleset double = (double-begins, double-byte, double-room, double-turn, double-last, double-odd, double-even, double-long)
+pub ruleset double = (high-fits, double-begins, double-byte, double-room, double-turn, double-last, double-odd, double-even, double-long)

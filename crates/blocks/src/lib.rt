@@ -6,21 +6,15 @@
 ghost use mathlib.Core.Path.{_≡_};
 ghost use mathlib.Core.Bool.{true};
 ghost use mathlib.Core.List.{[], _∷_};
-ghost use Prim.Native.Nat.{_+_, _*_, _/_, _%_, _≤_, _<_};
+ghost use Prim.Native.Nat.{_+_, _*_, _%_, _≤_, _<_};
 ghost use lib.ListN.{length, drop, getD};
 ghost use Rattle.little.specs.Writing.{Put};
 ghost use Rattle.lists.specs.Turns.{inTurn};
 ghost use Rattle.samples.specs.Sound.{sampleAt};
-ghost use Rattle.steps.specs.Code.{steps, decoded};
+ghost use Rattle.steps.specs.Code.{steps};
 ghost use Rattle.blocks.specs.Block.{samplesPerBlock, channelPart, headersFine, heard, framesIn};
 use steps::State;
 use steps::decode_code;
-
-// A channel after each of the two codes of a byte.
-pub struct Both {
-    pub low: State,
-    pub high: State,
-}
 
 // Whether the header of every channel holds an index in range.
 pub fn headers_fine(block: &[u8], channels: usize) -> bool
@@ -47,21 +41,6 @@ fn opened_at(block: &[u8], at: usize) -> State
     }
 }
 
-// A channel through a byte, low nibble first.
-fn through(state: State, byte: u8, table: &[u16; 89]) -> Both
-    requires { ⌜ (state .index < 89) × (now table ≡ steps) ⌝ }
-    ensures { λ r. ⌜ (r .low ≡ decoded state (byte % 16))
-        × (r .high ≡ decoded (decoded state (byte % 16)) (byte / 16))
-        × (r .high .index < 89) ⌝ }
-{
-    let low = decode_code(state, (byte % 16) as u32, table);
-    let high = decode_code(low, (byte / 16) as u32, table);
-    Both {
-        low: low,
-        high: high,
-    }
-}
-
 // Puts frames of one channel at a place, from the codes behind its header.
 fn mono_codes(
     block: &[u8],
@@ -79,12 +58,14 @@ fn mono_codes(
     let mut to = at;
     let mut i = 4;
     while 2 <= left {
-        let next = through(state, block[i], table);
-        let x = next.low.last;
-        let y = next.high.last;
+        let byte = block[i];
+        let low = decode_code(state, (byte % 16) as u32, table);
+        let high = decode_code(low, (byte / 16) as u32, table);
+        let x = low.last;
+        let y = high.last;
         out[to] = x;
         out[to + 1] = y;
-        state = next.high;
+        state = high;
         left -= 2;
         to += 2;
         i += 1;
@@ -119,18 +100,22 @@ fn stereo_codes(
     let mut i = 0;
     while 2 <= n {
         let from = 8 + i + 4 * (i / 4);
-        let a = through(l, block[from], table);
-        let b = through(r, block[from + 4], table);
-        let x = a.low.last;
-        let y = b.low.last;
-        let z = a.high.last;
-        let w = b.high.last;
+        let p = block[from];
+        let q = block[from + 4];
+        let a = decode_code(l, (p % 16) as u32, table);
+        let b = decode_code(r, (q % 16) as u32, table);
+        let c = decode_code(a, (p / 16) as u32, table);
+        let d = decode_code(b, (q / 16) as u32, table);
+        let x = a.last;
+        let y = b.last;
+        let z = c.last;
+        let w = d.last;
         out[to] = x;
         out[to + 1] = y;
         out[to + 2] = z;
         out[to + 3] = w;
-        l = a.high;
-        r = b.high;
+        l = c;
+        r = d;
         n -= 2;
         to += 4;
         i += 1;

@@ -7,10 +7,5 @@ use Rattle.blocks.proofs.decode.Tie as tie
 pub decode-spec : {M : Type 1} → statement M
 decode-spec =
     tie.close
-    (tie.spec
-    (λ c κs. search (needs, channels))
-    (λ c. search (needs, channels))
-    (λ c. search (needs, channels))
-    (λ c κs. search (needs, channels))
-    (λ c. search (needs, channels))
-    (λ c. search (needs, channels)))
+    (tie.spec (λ c κs. search (needs, channels)) (λ c. search (needs, channels)) (λ c. search (needs, channels))
+    (λ c κs. search (needs, channels)) (λ c. search (needs, channels)) (λ c. search (needs, channels)))

@@ -7,9 +7,5 @@ use Rattle.blocks.proofs.headers_fine.Tie as tie
 pub headers-fine-spec : {M : Type 1} → statement M
 headers-fine-spec =
     tie.close
-    (tie.spec
-    (λ c. search (needs, checking))
-    (λ c. search (needs, checking))
-    (λ c. search (needs, checking))
-    (λ c. search (needs, checking))
-    (λ c. search (needs, checking)))
+    (tie.spec (λ c. search (needs, checking)) (λ c. search (needs, checking)) (λ c. search (needs, checking))
+    (λ c. search (needs, checking)) (λ c. search (needs, checking)))

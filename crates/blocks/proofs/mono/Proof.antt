@@ -7,12 +7,6 @@ use Rattle.blocks.proofs.mono.Tie as tie
 pub mono-spec : {M : Type 1} → statement M
 mono-spec =
     tie.close
-    (tie.spec
-    (λ c κs. search (needs, mono))
-    (λ c. search (needs, mono))
-    (λ c. search (needs, mono))
-    (λ c. search (needs, mono))
-    (λ c. search (needs, mono))
-    (λ c κs. search (needs, mono))
-    (λ c. search (needs, mono))
-    (λ c. search (needs, mono)))
+    (tie.spec (λ c κs. search (needs, mono)) (λ c. search (needs, mono)) (λ c. search (needs, mono))
+    (λ c. search (needs, mono)) (λ c. search (needs, mono)) (λ c κs. search (needs, mono))
+    (λ c. search (needs, mono)) (λ c. search (needs, mono)))

@@ -1,6 +1,6 @@
 -- Up to the place all is written, and what is heard from byte i on is left; every turn writes the two frames of a byte.
-use borrow.Author.Needs.{needs}
 use Rattle.blocks.proofs.Codes.{Single, single}
+use borrow.Author.Needs.{needs}
 use Rattle.blocks.proofs.mono_codes.Statement.{statement}
 use Rattle.blocks.proofs.mono_codes.Tie as tie
 
@@ -14,27 +14,12 @@ abbrev μ-loop : tie.MeasureT-loop
 pub mono-codes-spec : {M : Type 1} → statement M
 mono-codes-spec =
     tie.close
-    (tie.spec
-    Inv-loop
-    μ-loop
-    (λ c. search (needs, single))
-    (λ c. search (needs, single))
-    (λ c κs. search (needs, single))
-    (λ c. search (needs, single))
-    (λ c. search (needs, single))
-    (λ c. search (needs, single))
-    (λ c. search (needs, single))
-    (λ c. search (needs, single))
-    (λ c. search (needs, single))
-    (λ c. search (needs, single))
-    (λ c. search (needs, single))
-    (λ c. search (needs, single))
-    (λ c. search (needs, single))
-    (λ c. search (needs, single))
-    (λ c κs. search (needs, single))
-    (λ c. search (needs, single))
-    (λ c. search (needs, single))
-    (λ c. search (needs, single))
-    (λ c. search (needs, single))
-    (λ c. search (needs, single))
+    (tie.spec Inv-loop μ-loop (λ c. search (needs, single)) (λ c. search (needs, single))
+    (λ c. search (needs, single)) (λ c κs. search (needs, single)) (λ c. search (needs, single))
+    (λ c κs. search (needs, single)) (λ c. search (needs, single)) (λ c. search (needs, single))
+    (λ c. search (needs, single)) (λ c. search (needs, single)) (λ c. search (needs, single))
+    (λ c. search (needs, single)) (λ c. search (needs, single)) (λ c. search (needs, single))
+    (λ c. search (needs, single)) (λ c. search (needs, single)) (λ c. search (needs, single))
+    (λ c κs. search (needs, single)) (λ c. search (needs, single)) (λ c. search (needs, single))
+    (λ c. search (needs, single)) (λ c. search (needs, single)) (λ c. search (needs, single))
     (λ c. search (needs, single)))

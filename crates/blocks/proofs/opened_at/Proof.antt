@@ -7,9 +7,5 @@ use Rattle.blocks.proofs.opened_at.Tie as tie
 pub opened-at-spec : {M : Type 1} → statement M
 opened-at-spec =
     tie.close
-    (tie.spec
-    (λ c κs. search needs)
-    (λ c. search needs)
-    (λ c. search needs)
-    (λ c. search (needs, byte-widens))
+    (tie.spec (λ c κs. search needs) (λ c. search needs) (λ c. search needs) (λ c. search (needs, byte-widens))
     (λ c. search needs))

@@ -7,16 +7,7 @@ use Rattle.blocks.proofs.stereo.Tie as tie
 pub stereo-spec : {M : Type 1} → statement M
 stereo-spec =
     tie.close
-    (tie.spec
-    (λ c κs. search (needs, stereo))
-    (λ c κs. search (needs, stereo))
-    (λ c. search (needs, stereo))
-    (λ c. search (needs, stereo))
-    (λ c. search (needs, stereo))
-    (λ c. search (needs, stereo))
-    (λ c. search (needs, stereo))
-    (λ c. search (needs, stereo))
-    (λ c. search (needs, stereo))
-    (λ c κs. search (needs, stereo))
-    (λ c. search (needs, stereo))
-    (λ c. search (needs, stereo)))
+    (tie.spec (λ c κs. search (needs, stereo)) (λ c κs. search (needs, stereo)) (λ c. search (needs, stereo))
+    (λ c. search (needs, stereo)) (λ c. search (needs, stereo)) (λ c. search (needs, stereo))
+    (λ c. search (needs, stereo)) (λ c. search (needs, stereo)) (λ c. search (needs, stereo))
+    (λ c κs. search (needs, stereo)) (λ c. search (needs, stereo)) (λ c. search (needs, stereo)))

@@ -1,7 +1,7 @@
 -- As in mono, with a byte of each channel: every turn writes their four samples. The facts of the long body
 -- that a search does not reach are handed to it: the invariant and the test.
-use borrow.Author.Needs.{needs}
 use Rattle.blocks.proofs.Codes.{Double, double}
+use borrow.Author.Needs.{needs}
 use Rattle.blocks.proofs.stereo_codes.Statement.{statement}
 use Rattle.blocks.proofs.stereo_codes.Tie as tie
 
@@ -12,80 +12,42 @@ Inv-loop block frames table out₀ at l₀ r₀ n₀ to₀ i₀ out l r n to i =
 abbrev μ-loop : tie.MeasureT-loop
 μ-loop block frames table out₀ at l₀ r₀ n₀ to₀ i₀ out l r n to i = n
 
+slice-set-from-y : tie.Need-slice-set-from-y Inv-loop μ-loop
+slice-set-from-y c =
+    let d = c .before .before .before .before .before .before .before .before .before .before in
+    search (needs, double, d .before .loop .inv, d .loop-test .taken)
+
+slice-set-from-z : tie.Need-slice-set-from-z Inv-loop μ-loop
+slice-set-from-z c =
+    let d = c .before .before .before .before .before .before .before .before .before .before in
+    search (needs, double, d .before .loop .inv, d .loop-test .taken)
+
+slice-set-from-w : tie.Need-slice-set-from-w Inv-loop μ-loop
+slice-set-from-w c =
+    let d = c .before .before .before .before .before .before .before .before .before .before in
+    search (needs, double, d .before .loop .inv, d .loop-test .taken)
+
+slice-set-from-y-2 : tie.Need-slice-set-from-y-2 Inv-loop μ-loop
+slice-set-from-y-2 c =
+    let d = c .before .before .before .before .before .before in
+    search (needs, double, d .before .before .loop .inv, d .if1 .taken)
+
 pub stereo-codes-spec : {M : Type 1} → statement M
 stereo-codes-spec =
     tie.close
-    (tie.spec
-    Inv-loop
-    μ-loop
-    (λ c. search (needs, double))
-    (λ c. search (needs, double))
-    (λ c. search (needs, double))
-    (λ c. search (needs, double))
-    (λ c. search (needs, double))
-    (λ c κs. search (needs, double))
-    (λ c. search (needs, double))
-    (λ c. search (needs, double))
-    (λ c κs. search (needs, double))
-    (λ c.
-    let d = c .before .before .before .before .before .before .before .before in
-    search (needs, double, d .before .loop .inv))
-    (λ c.
-    let d = c .before .before .before .before .before .before .before .before in
-    search (needs, double, d .before .loop .inv, d .loop-test .taken))
-    (λ c.
-    let d = c .before .before .before .before .before .before .before .before in
-    search (needs, double, d .before .loop .inv))
-    (λ c.
-    let d = c .before .before .before .before .before .before .before .before in
-    search (needs, double, d .before .loop .inv))
-    (λ c.
-    let d = c .before .before .before .before .before .before .before .before in
-    search (needs, double, d .before .loop .inv, d .loop-test .taken))
-    (λ c.
-    let d = c .before .before .before .before .before .before .before .before in
-    search (needs, double, d .before .loop .inv))
-    (λ c.
-    let d = c .before .before .before .before .before .before .before .before in
-    search (needs, double, d .before .loop .inv))
-    (λ c.
-    let d = c .before .before .before .before .before .before .before .before in
-    search (needs, double, d .before .loop .inv, d .loop-test .taken))
-    (λ c.
-    let d = c .before .before .before .before .before .before .before .before in
-    search (needs, double, d .before .loop .inv))
-    (λ c.
-    let d = c .before .before .before .before .before .before .before .before in
-    search (needs, double, d .before .loop .inv))
-    (λ c.
-    let d = c .before .before .before .before .before .before .before .before in
-    search (needs, double, d .before .loop .inv, d .loop-test .taken))
-    (λ c.
-    let d = c .before .before .before .before .before .before .before .before .before .before in
-    search (needs, double, d .before .loop .inv))
-    (λ c.
-    let d = c .before .before .before .before .before .before .before .before .before .before in
-    search (needs, double, d .before .loop .inv))
-    (λ c. search (needs, double))
-    (λ c. search (needs, double))
-    (λ c. search (needs, double))
-    (λ c. search (needs, double))
-    (λ c. search (needs, double))
-    (λ c. search (needs, double))
-    (λ c. search (needs, double))
-    (λ c κs. search (needs, double))
-    (λ c. search (needs, double))
-    (λ c. search (needs, double))
-    (λ c. search (needs, double))
-    (λ c κs. search (needs, double))
-    (λ c. search (needs, double))
-    (λ c. search (needs, double))
-    (λ c. search (needs, double))
-    (λ c. search (needs, double))
-    (λ c.
-    let d = c .before .before .before .before .before .before in
-    search (needs, double, d .before .before .loop .inv, d .if1 .taken))
-    (λ c. search (needs, double))
-    (λ c. search (needs, double))
-    (λ c. search (needs, double))
+    (tie.spec Inv-loop μ-loop (λ c. search (needs, double)) (λ c. search (needs, double))
+    (λ c. search (needs, double)) (λ c. search (needs, double)) (λ c. search (needs, double))
+    (λ c. search (needs, double)) (λ c. search (needs, double)) (λ c. search (needs, double))
+    (λ c κs. search (needs, double)) (λ c. search (needs, double)) (λ c κs. search (needs, double))
+    (λ c. search (needs, double)) (λ c κs. search (needs, double)) (λ c. search (needs, double))
+    (λ c κs. search (needs, double)) (λ c. search (needs, double)) (λ c. search (needs, double))
+    (λ c. search (needs, double)) (λ c. search (needs, double)) slice-set-from-y (λ c. search (needs, double))
+    (λ c. search (needs, double)) slice-set-from-z (λ c. search (needs, double)) (λ c. search (needs, double))
+    slice-set-from-w (λ c. search (needs, double)) (λ c. search (needs, double)) (λ c. search (needs, double))
+    (λ c. search (needs, double)) (λ c. search (needs, double)) (λ c. search (needs, double))
+    (λ c. search (needs, double)) (λ c. search (needs, double)) (λ c. search (needs, double))
+    (λ c κs. search (needs, double)) (λ c. search (needs, double)) (λ c. search (needs, double))
+    (λ c. search (needs, double)) (λ c κs. search (needs, double)) (λ c. search (needs, double))
+    (λ c. search (needs, double)) (λ c. search (needs, double)) (λ c. search (needs, double)) slice-set-from-y-2
+    (λ c. search (needs, double)) (λ c. search (needs, double)) (λ c. search (needs, double))
     (λ c. search (needs, double)))
