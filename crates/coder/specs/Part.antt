@@ -1,12 +1,15 @@
 -- One channel's part of a block: its samples, its header and its codes. Assumes nothing.
-use Prim.Native.Nat.{ℕ, zero, suc, _+_, _-_, _*_, min}
+use Prim.Native.Nat.{ℕ, zero, suc, _+_, _-_, _*_, _≤_, _<_, min}
+use mathlib.Core.Path.{_≡_}
 use mathlib.Core.Bool.{Bool, false, cond}
 use mathlib.Core.List.{List, [], _∷_, _++_}
 use lib.IntN.{ℤ, pos}
-use lib.ListN.{getD, take}
+use lib.ListN.{length, getD, take}
 use Rattle.samples.specs.Sound.{sampleBytes}
 use Rattle.steps.specs.Machine.{codesOf, after, chasedOf}
 use Rattle.coder.specs.declared.Channel.{Channel}
+use Rattle.coder.specs.declared.Channels.{Channels}
+use Rattle.little.specs.Writing.{Put}
 
 -- n samples of a channel, the first at index x of the sound and each of the others a stride further; the channel's last
 -- one is at index last, and past it that one is repeated
@@ -57,3 +60,23 @@ opening t x = record { state = record { last = x; index = t .state .index }; cha
 unfoldable pub channelAfterBlock : Channel → ℕ → List ℤ → Channel
 channelAfterBlock t n [] = t
 channelAfterBlock t n (x ∷ xs) = channelAfter (opening t x) (n - 1) xs
+
+-- ---- two channels: n samples of the left one, whose next is at index at, and n of the right one beside it
+abbrev pub leftsFrom : List ℤ → ℕ → ℕ → List ℤ
+leftsFrom s at n = taken s 2 (length s - 2) at n
+
+abbrev pub rightsFrom : List ℤ → ℕ → ℕ → List ℤ
+rightsFrom s at n = taken s 2 (length s - 1) (at + 1) n
+
+-- ---- what coding n samples into a buffer gives: the channel is then r, and the buffer, which was d, is e, with bytes at index to
+abbrev pub Ran : Channel → ℕ → Channel → List ℕ → Channel → List ℕ → ℕ → List ℕ → Type 0
+Ran from n after bytes r d to e =
+    (r ≡ after) × (r .state .index < 89) × (r .chased ≤ from .chased + n) × Put d to bytes e
+
+-- the same of both channels
+abbrev pub BothRan : Channels → ℕ → Channel → Channel → List ℕ → Channels → List ℕ → ℕ → List ℕ → Type 0
+BothRan from n left right bytes r d to e =
+    (r .left ≡ left) × (r .right ≡ right) × (r .left .state .index < 89) × (r .right .state .index < 89)
+    × (r .left .chased ≤ from .left .chased + n)
+    × (r .right .chased ≤ from .right .chased + n)
+    × Put d to bytes e

@@ -12,7 +12,7 @@ ghost use Rattle.little.specs.Writing.{Put};
 ghost use Rattle.lists.specs.Turns.{inTurn};
 ghost use Rattle.steps.specs.Code.{steps, codeFor, tracked, isChased};
 ghost use Rattle.steps.specs.Machine.{codesOf};
-ghost use Rattle.coder.specs.Part.{taken, packed, headBytes, codedPart, channelAfter, opening, channelAfterBlock};
+ghost use Rattle.coder.specs.Part.{taken, packed, headBytes, codedPart, channelAfter, opening, channelAfterBlock, leftsFrom, rightsFrom, Ran, BothRan};
 use steps::State;
 use steps::encode_code;
 
@@ -82,10 +82,10 @@ fn real_bytes(
 ) -> Channel
     requires { ⌜ (at ≤ 4294967296) × (stride * (2 * n) ≤ length (now sound) - 1 + stride - at) × (1 ≤ stride) × (stride ≤ 2) × (n ≤ 4096) × (to + n ≤ length (now out))
         × (from .state .index < 89) × (from .chased + 2 * n < 4294967296) × (now table ≡ steps) ⌝ }
-    ensures { λ r. ⌜ (r ≡ channelAfter from (2 * n) (taken (now (sound .entry)) stride (length (now (sound .entry)) - 1) at (2 * n)))
-        × (r .state .index < 89)
-        × (r .chased ≤ from .chased + 2 * n)
-        × Put (now (out .entry)) to (packed (codesOf (from .state) (taken (now (sound .entry)) stride (length (now (sound .entry)) - 1) at (2 * n)))) (now (out .exit)) ⌝ }
+    ensures { λ r. ⌜ Ran from (2 * n)
+        (channelAfter from (2 * n) (taken (now (sound .entry)) stride (length (now (sound .entry)) - 1) at (2 * n)))
+        (packed (codesOf (from .state) (taken (now (sound .entry)) stride (length (now (sound .entry)) - 1) at (2 * n))))
+        r (now (out .entry)) to (now (out .exit)) ⌝ }
 {
     let mut state = from.state;
     let mut chased = from.chased;
@@ -142,10 +142,10 @@ fn filled_bytes(
 ) -> Channel
     requires { ⌜ (last < length (now sound)) × (at ≤ 4294967296) × (1 ≤ stride) × (stride ≤ 2) × (n ≤ 4096) × (to + n ≤ length (now out))
         × (from .state .index < 89) × (from .chased + 2 * n < 4294967296) × (now table ≡ steps) ⌝ }
-    ensures { λ r. ⌜ (r ≡ channelAfter from left (taken (now (sound .entry)) stride last at (2 * n)))
-        × (r .state .index < 89)
-        × (r .chased ≤ from .chased + 2 * n)
-        × Put (now (out .entry)) to (packed (codesOf (from .state) (taken (now (sound .entry)) stride last at (2 * n)))) (now (out .exit)) ⌝ }
+    ensures { λ r. ⌜ Ran from (2 * n)
+        (channelAfter from left (taken (now (sound .entry)) stride last at (2 * n)))
+        (packed (codesOf (from .state) (taken (now (sound .entry)) stride last at (2 * n))))
+        r (now (out .entry)) to (now (out .exit)) ⌝ }
 {
     let mut state = from.state;
     let mut chased = from.chased;
@@ -182,10 +182,10 @@ fn channel_bytes(
 ) -> Channel
     requires { ⌜ (last < length (now sound)) × (stride * left ≤ last + stride - at) × (at ≤ 4294967296) × (1 ≤ stride) × (stride ≤ 2) × (n ≤ 4096)
         × (to + n ≤ length (now out)) × (from .state .index < 89) × (from .chased + 2 * n < 4294967296) × (now table ≡ steps) ⌝ }
-    ensures { λ r. ⌜ (r ≡ channelAfter from left (taken (now (sound .entry)) stride last at (2 * n)))
-        × (r .state .index < 89)
-        × (r .chased ≤ from .chased + 2 * n)
-        × Put (now (out .entry)) to (packed (codesOf (from .state) (taken (now (sound .entry)) stride last at (2 * n)))) (now (out .exit)) ⌝ }
+    ensures { λ r. ⌜ Ran from (2 * n)
+        (channelAfter from left (taken (now (sound .entry)) stride last at (2 * n)))
+        (packed (codesOf (from .state) (taken (now (sound .entry)) stride last at (2 * n))))
+        r (now (out .entry)) to (now (out .exit)) ⌝ }
 {
     if 2 * n <= left {
         return real_bytes(sound, at, stride, n, table, from, out, to);
@@ -239,10 +239,10 @@ pub fn mono_block(
 ) -> Channel
     requires { ⌜ (frame < length (now sound)) × (length (now sound) ≤ 536870912) × (groups ≤ 1023) × (to + 4 * groups + 4 ≤ length (now out))
         × (from .state .index < 89) × (from .chased + 8 * groups < 4294967296) × (now table ≡ steps) ⌝ }
-    ensures { λ r. ⌜ (r ≡ channelAfterBlock from (length (now (sound .entry)) - frame) (taken (now (sound .entry)) 1 (length (now (sound .entry)) - 1) frame (8 * groups + 1)))
-        × (r .state .index < 89)
-        × (r .chased ≤ from .chased + 8 * groups)
-        × Put (now (out .entry)) to (codedPart (from .state .index) (taken (now (sound .entry)) 1 (length (now (sound .entry)) - 1) frame (8 * groups + 1))) (now (out .exit)) ⌝ }
+    ensures { λ r. ⌜ Ran from (8 * groups)
+        (channelAfterBlock from (length (now (sound .entry)) - frame) (taken (now (sound .entry)) 1 (length (now (sound .entry)) - 1) frame (8 * groups + 1)))
+        (codedPart (from .state .index) (taken (now (sound .entry)) 1 (length (now (sound .entry)) - 1) frame (8 * groups + 1)))
+        r (now (out .entry)) to (now (out .exit)) ⌝ }
 {
     let n = sound.len();
     let channel = open(sound[frame], from, out, to);
@@ -273,16 +273,11 @@ fn stereo_group(
     requires { ⌜ (2 ≤ length (now sound)) × (2 * left ≤ length (now sound) - at) × (at < 4294967296) × (to + 8 ≤ length (now out))
         × (from .left .state .index < 89) × (from .right .state .index < 89)
         × (from .left .chased + 8 < 4294967296) × (from .right .chased + 8 < 4294967296) × (now table ≡ steps) ⌝ }
-    ensures { λ r. ⌜ (r .left ≡ channelAfter (from .left) left (taken (now (sound .entry)) 2 (length (now (sound .entry)) - 2) at 8))
-        × (r .right ≡ channelAfter (from .right) left (taken (now (sound .entry)) 2 (length (now (sound .entry)) - 1) (at + 1) 8))
-        × (r .left .state .index < 89)
-        × (r .right .state .index < 89)
-        × (r .left .chased ≤ from .left .chased + 8)
-        × (r .right .chased ≤ from .right .chased + 8)
-        × Put (now (out .entry)) to
-        (packed (codesOf (from .left .state) (taken (now (sound .entry)) 2 (length (now (sound .entry)) - 2) at 8))
-        ++ packed (codesOf (from .right .state) (taken (now (sound .entry)) 2 (length (now (sound .entry)) - 1) (at + 1) 8)))
-        (now (out .exit)) ⌝ }
+    ensures { λ r. ⌜ BothRan from 8
+        (channelAfter (from .left) left (leftsFrom (now (sound .entry)) at 8))
+        (channelAfter (from .right) left (rightsFrom (now (sound .entry)) at 8))
+        (packed (codesOf (from .left .state) (leftsFrom (now (sound .entry)) at 8)) ++ packed (codesOf (from .right .state) (rightsFrom (now (sound .entry)) at 8)))
+        r (now (out .entry)) to (now (out .exit)) ⌝ }
 {
     let n = sound.len();
     let l = channel_bytes(sound, at, 2, n - 2, left, 4, table, from.left, out, to);
@@ -316,16 +311,12 @@ fn stereo_groups(
     requires { ⌜ (2 ≤ length (now sound)) × (2 * left ≤ length (now sound) - at) × (at ≤ 1073741824) × (groups ≤ 511)
         × (to + 8 * groups ≤ length (now out)) × (from .left .state .index < 89) × (from .right .state .index < 89)
         × (from .left .chased + 8 * groups < 4294967296) × (from .right .chased + 8 * groups < 4294967296) × (now table ≡ steps) ⌝ }
-    ensures { λ r. ⌜ (r .left ≡ channelAfter (from .left) left (taken (now (sound .entry)) 2 (length (now (sound .entry)) - 2) at (8 * groups)))
-        × (r .right ≡ channelAfter (from .right) left (taken (now (sound .entry)) 2 (length (now (sound .entry)) - 1) (at + 1) (8 * groups)))
-        × (r .left .state .index < 89)
-        × (r .right .state .index < 89)
-        × (r .left .chased ≤ from .left .chased + 8 * groups)
-        × (r .right .chased ≤ from .right .chased + 8 * groups)
-        × Put (now (out .entry)) to
-        (inTurn 4 groups (packed (codesOf (from .left .state) (taken (now (sound .entry)) 2 (length (now (sound .entry)) - 2) at (8 * groups)))
-        ∷ packed (codesOf (from .right .state) (taken (now (sound .entry)) 2 (length (now (sound .entry)) - 1) (at + 1) (8 * groups))) ∷ []))
-        (now (out .exit)) ⌝ }
+    ensures { λ r. ⌜ BothRan from (8 * groups)
+        (channelAfter (from .left) left (leftsFrom (now (sound .entry)) at (8 * groups)))
+        (channelAfter (from .right) left (rightsFrom (now (sound .entry)) at (8 * groups)))
+        (inTurn 4 groups (packed (codesOf (from .left .state) (leftsFrom (now (sound .entry)) at (8 * groups)))
+        ∷ packed (codesOf (from .right .state) (rightsFrom (now (sound .entry)) at (8 * groups))) ∷ []))
+        r (now (out .entry)) to (now (out .exit)) ⌝ }
 {
     let mut channels = from;
     let mut there = left;
@@ -355,16 +346,12 @@ pub fn stereo_block(
     requires { ⌜ (at + 2 ≤ length (now sound)) × (length (now sound) ≤ 536870912) × (groups ≤ 511) × (to + 8 * groups + 8 ≤ length (now out))
         × (from .left .state .index < 89) × (from .right .state .index < 89)
         × (from .left .chased + 8 * groups < 4294967296) × (from .right .chased + 8 * groups < 4294967296) × (now table ≡ steps) ⌝ }
-    ensures { λ r. ⌜ (r .left ≡ channelAfterBlock (from .left) ((length (now (sound .entry)) - at) / 2) (taken (now (sound .entry)) 2 (length (now (sound .entry)) - 2) at (8 * groups + 1)))
-        × (r .right ≡ channelAfterBlock (from .right) ((length (now (sound .entry)) - at) / 2) (taken (now (sound .entry)) 2 (length (now (sound .entry)) - 1) (at + 1) (8 * groups + 1)))
-        × (r .left .state .index < 89)
-        × (r .right .state .index < 89)
-        × (r .left .chased ≤ from .left .chased + 8 * groups)
-        × (r .right .chased ≤ from .right .chased + 8 * groups)
-        × Put (now (out .entry)) to
-        (inTurn 4 (groups + 1) (codedPart (from .left .state .index) (taken (now (sound .entry)) 2 (length (now (sound .entry)) - 2) at (8 * groups + 1))
-        ∷ codedPart (from .right .state .index) (taken (now (sound .entry)) 2 (length (now (sound .entry)) - 1) (at + 1) (8 * groups + 1)) ∷ []))
-        (now (out .exit)) ⌝ }
+    ensures { λ r. ⌜ BothRan from (8 * groups)
+        (channelAfterBlock (from .left) ((length (now (sound .entry)) - at) / 2) (leftsFrom (now (sound .entry)) at (8 * groups + 1)))
+        (channelAfterBlock (from .right) ((length (now (sound .entry)) - at) / 2) (rightsFrom (now (sound .entry)) at (8 * groups + 1)))
+        (inTurn 4 (groups + 1) (codedPart (from .left .state .index) (leftsFrom (now (sound .entry)) at (8 * groups + 1))
+        ∷ codedPart (from .right .state .index) (rightsFrom (now (sound .entry)) at (8 * groups + 1)) ∷ []))
+        r (now (out .entry)) to (now (out .exit)) ⌝ }
 {
     let left = (sound.len() - at) / 2 - 1;
     let channels = open_both(sound[at], sound[at + 1], from, out, to);
