@@ -2,7 +2,7 @@
 use mathlib.Core.Path.{_≡_, refl, sym, ap, _∙_, subst}
 use mathlib.Core.Bool.{Bool, true, false}
 use mathlib.Core.List.{List}
-use Prim.Native.Nat.{ℕ, _+_, _-_, _*_, _/_, _%_, _≤_, _<_}
+use Prim.Native.Nat.{ℕ, _*_, _%_, _≤_}
 use native.Mathlib.Omega.{arith}
 use lib.Dec.{T, leb, eqb, leb→le, eqb→eq}
 use lib.IntN.{ℤ}
@@ -17,9 +17,8 @@ use Rattle.units.specs.declared.Verdict.{Verdict}
 use Rattle.units.specs.declared.Verdict.the-variants.{Accepted, Refused}
 use Rattle.units.specs.Refusals.{demand}
 use Rattle.ima.specs.declared.Written.{Written}
-use Rattle.ima.specs.declared.Encoded.{Encoded}
 use Rattle.ima.specs.Encoding.{codable, blocksFor, blockBytes, encodedBytes, chasedCount, encodeVerdict}
-use Rattle.ima.specs.Answer.{writtenOf, answer, encoding, holding}
+use Rattle.ima.specs.Answer.{writtenOf, answer, encoding}
 use Rattle.ima.proofs.Settling.{Codable, codable-says, product-fits}
 use Rattle.ima.proofs.Loops.{length-mono, length-stereo}
 
@@ -114,7 +113,8 @@ module _ (n c a room : ℕ) (e : encodeVerdict n c a room ≡ Accepted) where
     two-fits g = subst (λ (k : ℕ). k * a ≤ room) (sym g) (said .fits)
 
 -- ---- what was written
-length-encoded : (c a : ℕ) (s : List ℤ) → ((k : ℕ) → length (blockBytes c a s k) ≡ a) → length (encodedBytes c a s) ≡ blocksFor c a (length s) * a
+length-encoded : (c a : ℕ) (s : List ℤ) → ((k : ℕ) → length (blockBytes c a s k) ≡ a)
+    → length (encodedBytes c a s) ≡ blocksFor c a (length s) * a
 unfolding encodedBytes
 length-encoded c a s l = joined-long (blockBytes c a s) a 0 (blocksFor c a (length s)) l
 
@@ -122,37 +122,42 @@ absent : (a : ℕ) (s : List ℤ) → 0 ≡ chasedCount 1 a s 1
 unfolding chasedCount
 absent a s = refl
 
-module _ (c a room : ℕ) (s : List ℤ) (e : encodeVerdict (length s) c a room ≡ Accepted) {b : ℕ} (g : b ≡ blocksFor c a (length s)) where
-  pub mono-answer : {n : ℕ} → c ≡ 1 → n ≡ chasedCount 1 a s 0
-      → record { bytes = record { 0 = b * a }; left = record { 0 = n }; right = record { 0 = 0 } } ≡ writtenOf c a s
+-- so many bytes, and so many chased samples of left and right
+abbrev told : ℕ → ℕ → ℕ → Written
+told b l r = record { bytes = record { 0 = b }; left = record { 0 = l }; right = record { 0 = r } }
+
+same-told : {b d l m r n : ℕ} → b ≡ d → l ≡ m → r ≡ n → told b l r ≡ told d m n
+same-told {b} {d} {l} {m} {r} {n} e f g =
+    ap (λ (k : ℕ). told k l r) e ∙ ap (λ (k : ℕ). told d k r) f ∙ ap (told d m) g
+
+module _ (c a room : ℕ) (s : List ℤ) (e : encodeVerdict (length s) c a room ≡ Accepted) {b : ℕ}
+    (g : b ≡ blocksFor c a (length s)) where
+  pub mono-answer : {n : ℕ} → c ≡ 1 → n ≡ chasedCount 1 a s 0 → told (b * a) n 0 ≡ writtenOf c a s
   unfolding writtenOf
-  mono-answer {n} o h =
+  mono-answer o h =
       let w : Codable 1 a = one (length s) c a room e o .fine in
       let k : b * a ≡ length (encodedBytes 1 a s) =
-      ap (λ (m : ℕ). m * a) (one-blocks (length s) c a room e o g) ∙ sym (length-encoded 1 a s (λ m. length-mono a s m w)) in
-      let z : 0 ≡ chasedCount 1 a s 1 = absent a s in
-      ap (λ (m : ℕ). record { bytes = record { 0 = m }; left = record { 0 = n }; right = record { 0 = 0 } }) k
-      ∙ ap (λ (m : ℕ). record { bytes = record { 0 = length (encodedBytes 1 a s) }; left = record { 0 = m }; right = record { 0 = 0 } }) h
-      ∙ ap (λ (m : ℕ). record { bytes = record { 0 = length (encodedBytes 1 a s) }; left = record { 0 = chasedCount 1 a s 0 }; right = record { 0 = m } }) z
-      ∙ ap (λ (k : ℕ). writtenOf k a s) (sym o)
+      ap (λ (m : ℕ). m * a) (one-blocks (length s) c a room e o g)
+      ∙ sym (length-encoded 1 a s (λ m. length-mono a s m w)) in
+      same-told k h (absent a s) ∙ ap (λ (k : ℕ). writtenOf k a s) (sym o)
 
-  pub mono-buffer : (d : List ℕ) {f : List ℕ} → c ≡ 1 → f ≡ front (encodedBytes 1 a s) d → f ≡ front (encodedBytes c a s) d
+  pub mono-buffer : (d : List ℕ) {f : List ℕ} → c ≡ 1 → f ≡ front (encodedBytes 1 a s) d
+      → f ≡ front (encodedBytes c a s) d
   mono-buffer d o h = h ∙ ap (λ (k : ℕ). front (encodedBytes k a s) d) (sym o)
 
   module _ (o : c ≡ 1 → ⊥) where
     pub stereo-answer : {n m : ℕ} → n ≡ chasedCount 2 a s 0 → m ≡ chasedCount 2 a s 1
-        → record { bytes = record { 0 = b * a }; left = record { 0 = n }; right = record { 0 = m } } ≡ writtenOf c a s
+        → told (b * a) n m ≡ writtenOf c a s
     unfolding writtenOf
-    stereo-answer {n} {m} h i =
+    stereo-answer h i =
         let w : Codable 2 a = both (length s) c a room e o .fine in
         let k : b * a ≡ length (encodedBytes 2 a s) =
-        ap (λ (m : ℕ). m * a) (two-blocks (length s) c a room e o g) ∙ sym (length-encoded 2 a s (λ m. length-stereo a s m w)) in
-        ap (λ (q : ℕ). record { bytes = record { 0 = q }; left = record { 0 = n }; right = record { 0 = m } }) k
-        ∙ ap (λ (q : ℕ). record { bytes = record { 0 = length (encodedBytes 2 a s) }; left = record { 0 = q }; right = record { 0 = m } }) h
-        ∙ ap (λ (q : ℕ). record { bytes = record { 0 = length (encodedBytes 2 a s) }; left = record { 0 = chasedCount 2 a s 0 }; right = record { 0 = q } }) i
-        ∙ ap (λ (k : ℕ). writtenOf k a s) (sym (two-channels (length s) c a room e o))
+        ap (λ (m : ℕ). m * a) (two-blocks (length s) c a room e o g)
+        ∙ sym (length-encoded 2 a s (λ m. length-stereo a s m w)) in
+        same-told k h i ∙ ap (λ (k : ℕ). writtenOf k a s) (sym (two-channels (length s) c a room e o))
 
-    pub stereo-buffer : (d : List ℕ) {f : List ℕ} → f ≡ front (encodedBytes 2 a s) d → f ≡ front (encodedBytes c a s) d
+    pub stereo-buffer : (d : List ℕ) {f : List ℕ} → f ≡ front (encodedBytes 2 a s) d
+        → f ≡ front (encodedBytes c a s) d
     stereo-buffer d h = h ∙ ap (λ (k : ℕ). front (encodedBytes k a s) d) (sym (two-channels (length s) c a room e o))
 
 pub ruleset writing = (said-some, said-room, said-most, said-small, said-fits, one-whole, one-least, one-blocks, one-fits, two-whole, two-least, two-frames, two-blocks, two-fits, mono-answer, mono-buffer, stereo-answer, stereo-buffer)
@@ -164,7 +169,8 @@ module _ (c a room : ℕ) (s : List ℤ) {v : Verdict} (e : v ≡ encodeVerdict 
 
   pub answer-blocks : {w : Written} → v ≡ Accepted → w ≡ writtenOf c a s → answer Accepted w ≡ encoding s c a room
   unfolding encoding
-  answer-blocks {w} f g = ap (λ (x : Verdict). answer x w) (sym f ∙ e) ∙ ap (answer (encodeVerdict (length s) c a room)) g
+  answer-blocks {w} f g =
+      ap (λ (x : Verdict). answer x w) (sym f ∙ e) ∙ ap (answer (encodeVerdict (length s) c a room)) g
 
   pub answer-refused : {r : Refusal} → v ≡ Refused r → answer (Refused r) (writtenOf c a s) ≡ encoding s c a room
   unfolding encoding

@@ -1,9 +1,9 @@
 -- Block after block of a channel: the index is carried on, and the chased samples add up. Assumes nothing.
-use mathlib.Core.Path.{_≡_, refl, sym, ap, _∙_, subst}
-use mathlib.Core.Bool.{Bool, false}
+use mathlib.Core.Path.{_≡_, refl, sym, ap, _∙_}
+use mathlib.Core.Bool.{Bool}
 use mathlib.Core.List.{List, [], _∷_, _++_}
 use mathlib.Core.Logic.{_↔_}
-use Prim.Native.Nat.{ℕ, zero, suc, _+_, _-_, _*_, _/_, _%_, _≤_, _<_}
+use Prim.Native.Nat.{ℕ, zero, suc, _+_, _-_, _*_, _/_, _≤_, _<_}
 use native.Mathlib.Nat.{add-mul, one-mul, zero-mul, sub-zero, le-div-iff-mul-le}
 use native.Mathlib.Numerals.{add-one}
 use native.Mathlib.Omega.{arith}
@@ -16,7 +16,7 @@ use Rattle.steps.specs.Machine.{chasedOf}
 use Rattle.steps.proofs.Machine.{length-chased}
 use Rattle.blocks.specs.Block.{samplesPerBlock}
 use Rattle.coder.specs.declared.Channel.{Channel}
-use Rattle.coder.specs.Part.{taken, closingIndex, chasedPart, countOf, channelAfter, opening, channelAfterBlock}
+use Rattle.coder.specs.Part.{closingIndex, chasedPart, countOf, channelAfter, opening, channelAfterBlock}
 use Rattle.coder.proofs.Taken.{length-taken}
 use Rattle.coder.proofs.Runs.{count-append}
 use Rattle.ima.specs.Encoding.{blockOf, openIndex, chasedBlock, blocksFor, chasedIn}
@@ -47,7 +47,8 @@ begun c a n k h =
     omega (arith, e .0 (omega arith), next-times k p, per-some c a)
 
 -- ---- a channel after a block
-block-closes : (t : Channel) (n : ℕ) (xs : List ℤ) → 1 ≤ length xs → channelAfterBlock t n xs .state .index ≡ closingIndex (t .state .index) xs
+block-closes : (t : Channel) (n : ℕ) (xs : List ℤ) → 1 ≤ length xs
+    → channelAfterBlock t n xs .state .index ≡ closingIndex (t .state .index) xs
 unfolding channelAfterBlock channelAfter opening closingIndex
 block-closes t n [] h = absurd (omega arith)
 block-closes t n (x ∷ xs) h = refl
@@ -69,7 +70,8 @@ length-part i (x ∷ xs) = ap suc (length-chased (record { last = x; index = i }
 
 pub length-block : (c a : ℕ) (s : List ℤ) (ch k : ℕ) → length (blockOf c a s ch k) ≡ samplesPerBlock c a
 unfolding blockOf
-length-block c a s ch k = length-taken s c (length s - c + ch) (c * (k * samplesPerBlock c a) + ch) (samplesPerBlock c a)
+length-block c a s ch k =
+    length-taken s c (length s - c + ch) (c * (k * samplesPerBlock c a) + ch) (samplesPerBlock c a)
 
 -- ---- channel ch before block k
 pub record Sofar (c a : ℕ) (s : List ℤ) (ch k : ℕ) (t : Channel) : Type 0 where
@@ -77,10 +79,12 @@ pub record Sofar (c a : ℕ) (s : List ℤ) (ch k : ℕ) (t : Channel) : Type 0 
   pub good : t .state .index < 89
   pub few : t .chased ≤ k * samplesPerBlock c a
   pub counts :
-      t .chased + countOf (take (length s / c - k * samplesPerBlock c a) (joined (values (chasedBlock c a s ch) k (blocksFor c a (length s) - k))))
+      t .chased + countOf (take (length s / c - k * samplesPerBlock c a)
+      (joined (values (chasedBlock c a s ch) k (blocksFor c a (length s) - k))))
       ≡ countOf (take (length s / c) (chasedIn c a s ch))
 
-pub sofar-begins : (c a : ℕ) (s : List ℤ) (ch : ℕ) (t : Channel) → t .state .index ≡ 0 → t .chased ≡ 0 → Sofar c a s ch 0 t
+pub sofar-begins : (c a : ℕ) (s : List ℤ) (ch : ℕ) (t : Channel) → t .state .index ≡ 0 → t .chased ≡ 0
+    → Sofar c a s ch 0 t
 unfolding openIndex chasedIn
 sofar-begins c a s ch t e f =
     let p : ℕ = samplesPerBlock c a in
@@ -89,7 +93,8 @@ sofar-begins c a s ch t e f =
     record { index = e; good = omega arith; few = omega (arith, zero-mul p); counts = rw (f, z, n) (omega arith) }
 
 module _ {c a : ℕ} {s : List ℤ} {ch k : ℕ} {t : Channel} (w : Sofar c a s ch k t) where
-  pub sofar-next : {r : Channel} → k < blocksFor c a (length s) → r ≡ channelAfterBlock t (length s / c - k * samplesPerBlock c a) (blockOf c a s ch k)
+  pub sofar-next : {r : Channel} → k < blocksFor c a (length s)
+      → r ≡ channelAfterBlock t (length s / c - k * samplesPerBlock c a) (blockOf c a s ch k)
       → r .state .index < 89 → r .chased + 1 ≤ t .chased + samplesPerBlock c a → Sofar c a s ch (k + 1) r
   unfolding openIndex chasedBlock
   sofar-next {r} h e g f =
@@ -102,15 +107,19 @@ module _ {c a : ℕ} {s : List ℤ} {ch k : ℕ} {t : Channel} (w : Sofar c a s 
       let bs : List Bool = chasedBlock c a s ch k in
       let cs : List Bool = joined (values (chasedBlock c a s ch) (k + 1) (blocksFor c a (length s) - (k + 1))) in
       let i : r .state .index ≡ closingIndex (openIndex c a s ch k) xs =
-      ap (λ (q : Channel). q .state .index) e ∙ block-closes t n xs u ∙ ap (λ (q : ℕ). closingIndex q xs) (w .index) in
+      ap (λ (q : Channel). q .state .index) e ∙ block-closes t n xs u
+      ∙ ap (λ (q : ℕ). closingIndex q xs) (w .index) in
       let c1 : r .chased ≡ t .chased + countOf (take n bs) =
-      ap (λ (q : Channel). q .chased) e ∙ block-counts t n xs o u ∙ ap (λ (q : ℕ). t .chased + countOf (take n (chasedPart q xs))) (w .index) in
+      ap (λ (q : Channel). q .chased) e ∙ block-counts t n xs o u
+      ∙ ap (λ (q : ℕ). t .chased + countOf (take n (chasedPart q xs))) (w .index) in
       let lb : length bs ≡ p = length-part (openIndex c a s ch k) xs ∙ l in
       let m : n - length bs ≡ length s / c - (k + 1) * p = omega (arith, next-times k p) in
       let c2 : countOf (take n (bs ++ cs)) ≡ countOf (take n bs) + countOf (take (length s / c - (k + 1) * p) cs) =
       count-append n bs cs ∙ ap (λ (q : ℕ). countOf (take n bs) + countOf (take q cs)) m in
-      let c3 : countOf (take n (joined (values (chasedBlock c a s ch) k (blocksFor c a (length s) - k)))) ≡ countOf (take n (bs ++ cs)) =
-      ap (λ (q : List Bool). countOf (take n q)) (joined-next (chasedBlock c a s ch) k (blocksFor c a (length s)) h) in
+      let c3 : countOf (take n (joined (values (chasedBlock c a s ch) k (blocksFor c a (length s) - k))))
+      ≡ countOf (take n (bs ++ cs)) =
+      ap (λ (q : List Bool). countOf (take n q))
+      (joined-next (chasedBlock c a s ch) k (blocksFor c a (length s)) h) in
       record {
         index = i ∙ ap (openIndex c a s ch) (sym (add-one k));
         good = g;

@@ -1,22 +1,21 @@
--- Demand 3: what is heard of the blocks written is what encoding tracked, and that is as near as each code is. Assumes nothing.
-use mathlib.Core.Path.{_≡_, refl, sym, ap, _∙_, subst}
+-- Demand 3: what is heard of the blocks written is what encoding tracked, as near as each code is. Assumes nothing.
+use mathlib.Core.Path.{_≡_, refl, sym, ap, _∙_}
 use mathlib.Core.Bool.{Bool, true, false, cond, _&&_}
 use mathlib.Core.List.{List, [], _∷_}
-use Prim.Native.Nat.{ℕ, zero, suc, _+_, _-_, _*_, _/_, _%_, _≤_, _<_}
+use Prim.Native.Nat.{ℕ, suc, _+_, _-_, _*_, _/_, _%_, _≤_, _<_}
 use native.Mathlib.Nat.{div-add-mod', mod-lt, zero-add}
 use native.Mathlib.Omega.{arith}
 use lib.Dec.{ltb}
 use lib.IntN.{ℤ, pos}
 use lib.ListN.{length, take, getD}
 use lib.Seq.{ext-getD, length-take-le, getD-take}
-use borrow.Author.Tests.{lt-ltb, le-ltb}
+use borrow.Author.Tests.{lt-ltb}
 use Rattle.samples.proofs.Signed.{by-ltb}
 use Rattle.lists.specs.Turns.{values, joined}
 use Rattle.lists.proofs.Turns.{values-long, values-at, joined-long, joined-element}
 use Rattle.steps.specs.declared.State.{State}
 use Rattle.steps.specs.Code.{isChased}
-use Rattle.steps.specs.Machine.{trackedAll}
-use Rattle.steps.specs.Quality.{InRange, Sixteen, Faithful, within, atMost}
+use Rattle.steps.specs.Quality.{Sixteen, Faithful, within, atMost}
 use Rattle.steps.proofs.Machine.{sixteen-first, sixteen-rest, faithful-at, chased-at}
 use Rattle.blocks.specs.Block.{samplesPerBlock, channelPart, statesIn}
 use Rattle.coder.specs.Part.{chasedPart, countOf}
@@ -27,9 +26,9 @@ use Rattle.units.proofs.Laws.{demand-row}
 use Rattle.ima.specs.declared.Written.{Written}
 use Rattle.ima.specs.declared.Encoded.{Encoded}
 use Rattle.ima.specs.declared.Encoded.the-variants.{Blocks, Refused}
-use Rattle.ima.specs.Encoding.{blockOf, openIndex, partOf, chasedBlock, blockBytes, blocksFor, encodedBytes, chasedIn, chasedCount, encodeVerdict}
+use Rattle.ima.specs.Encoding.{blockOf, openIndex, partOf, chasedBlock, blocksFor, encodedBytes, chasedIn, chasedCount, encodeVerdict}
 use Rattle.ima.specs.Answer.{writtenOf, answer, encoding, encodedNumber}
-use Rattle.ima.specs.Demands.{frameOf, blockIn, heardAt, chasedAt, chasedFrames, Heard, Quality, trackedPart, trackedAt, Tracked, Numbered}
+use Rattle.ima.specs.Demands.{frameOf, blockIn, heardAt, chasedAt, chasedFrames, Quality, trackedPart, trackedAt, Tracked, Numbered}
 use Rattle.ima.proofs.Settling.{Codable}
 use Rattle.ima.proofs.Answers.{Settled, settled-says}
 use Rattle.ima.proofs.Blocks.{per-some, length-block, length-part}
@@ -46,12 +45,15 @@ part-opens i [] g = absurd (omega arith)
 part-opens i (x ∷ xs) g = refl
 
 part-later : (i : ℕ) (xs : List ℤ) (j : ℕ) → Sixteen xs → i < 89 → suc j < length xs
-    → Faithful (getD (trackedPart i xs) j silent) (getD xs (suc j) (pos 0)) (getD (trackedPart i xs) (suc j) silent .last)
+    → Faithful (getD (trackedPart i xs) j silent) (getD xs (suc j) (pos 0))
+    (getD (trackedPart i xs) (suc j) silent .last)
 unfolding trackedPart
 part-later i [] j s h g = absurd (omega arith)
-part-later i (x ∷ xs) j s h g = faithful-at silent (record { last = sixteen-first s; index = h }) (sixteen-rest s) j (omega arith)
+part-later i (x ∷ xs) j s h g =
+    faithful-at silent (record { last = sixteen-first s; index = h }) (sixteen-rest s) j (omega arith)
 
-part-chased : (i : ℕ) (xs : List ℤ) (j : ℕ) → suc j < length xs → getD (chasedPart i xs) (suc j) false ≡ isChased (getD (trackedPart i xs) j silent) (getD xs (suc j) (pos 0))
+part-chased : (i : ℕ) (xs : List ℤ) (j : ℕ) → suc j < length xs
+    → getD (chasedPart i xs) (suc j) false ≡ isChased (getD (trackedPart i xs) j silent) (getD xs (suc j) (pos 0))
 unfolding trackedPart chasedPart
 part-chased i [] j g = absurd (omega arith)
 part-chased i (x ∷ xs) j g = chased-at (record { last = x; index = i }) xs silent j (omega arith)
@@ -71,14 +73,16 @@ module _ (c a : ℕ) (s : List ℤ) (ch : ℕ) (w : Codable c a) (z : Sixteen s)
 
   -- what is heard is what encoding tracked
   heard-tracked : (f : ℕ) → f < length s / c
-      → heardAt c a bytes ch f ≡ getD (trackedPart (openIndex c a s ch (f / p)) (blockOf c a s ch (f / p))) (f % p) silent
+      → heardAt c a bytes ch f ≡ getD (trackedPart (openIndex c a s ch (f / p)) (blockOf c a s ch (f / p)))
+      (f % p) silent
   unfolding heardAt partOf
   heard-tracked f h =
       let k : ℕ = f / samplesPerBlock c a in
       let i : ℕ = openIndex c a s ch k in
       let xs : List ℤ = blockOf c a s ch k in
       let e : channelPart c (blockIn a (encodedBytes c a s) k) ch ≡ partOf c a s k ch =
-      ap (λ (b : List ℕ). channelPart c b ch) (block-back w s k (block-among c a (length s) f h)) ∙ part-back w s k ch l in
+      ap (λ (b : List ℕ). channelPart c b ch) (block-back w s k (block-among c a (length s) f h))
+      ∙ part-back w s k ch l in
       ap (λ (b : List ℕ). getD (statesIn b) (f % samplesPerBlock c a) silent) e
       ∙ ap (λ (ts : List State). getD ts (f % samplesPerBlock c a) silent)
       (part-heard i (a / (4 * c) - 1) xs (block-sixteen c a s ch k z) (length-block c a s ch k ∙ per-is w))
@@ -101,12 +105,15 @@ module _ (c a : ℕ) (s : List ℤ) (ch : ℕ) (w : Codable c a) (z : Sixteen s)
       ∙ frame-is f h
 
   heard-before : (f : ℕ) → f < length s / c → 0 < f % p
-      → heardAt c a bytes ch (f - 1) ≡ getD (trackedPart (openIndex c a s ch (f / p)) (blockOf c a s ch (f / p))) (f % p - 1) silent
+      → heardAt c a bytes ch (f - 1) ≡ getD (trackedPart (openIndex c a s ch (f / p)) (blockOf c a s ch (f / p)))
+      (f % p - 1) silent
   heard-before f h g =
       let n : ℕ = samplesPerBlock c a in
       heard-tracked (f - 1) (omega arith)
-      ∙ ap (λ (k : ℕ). getD (trackedPart (openIndex c a s ch k) (blockOf c a s ch k)) ((f - 1) % n) silent) (same-block n f (per-some c a) g)
-      ∙ ap (λ (j : ℕ). getD (trackedPart (openIndex c a s ch (f / n)) (blockOf c a s ch (f / n))) j silent) (one-before n f (per-some c a) g)
+      ∙ ap (λ (k : ℕ). getD (trackedPart (openIndex c a s ch k) (blockOf c a s ch k)) ((f - 1) % n) silent)
+      (same-block n f (per-some c a) g)
+      ∙ ap (λ (j : ℕ). getD (trackedPart (openIndex c a s ch (f / n)) (blockOf c a s ch (f / n))) j silent)
+      (one-before n f (per-some c a) g)
 
   block-long : (k : ℕ) → length (chasedBlock c a s ch k) ≡ samplesPerBlock c a
   unfolding chasedBlock
@@ -123,22 +130,28 @@ module _ (c a : ℕ) (s : List ℤ) (ch : ℕ) (w : Codable c a) (z : Sixteen s)
       let j : ℕ = f % n - 1 in
       let e : f % n ≡ suc j = omega arith in
       let before : heardAt c a bytes ch (f - 1) ≡ getD (trackedPart i xs) j silent = heard-before f h g in
-      let here : heardAt c a bytes ch f ≡ getD (trackedPart i xs) (suc j) silent = heard-tracked f h ∙ ap (λ (m : ℕ). getD (trackedPart i xs) m silent) e in
-      let x : frameOf c s ch f ≡ getD xs (suc j) (pos 0) = sym (frame-is f h) ∙ ap (λ (m : ℕ). getD xs m (pos 0)) e in
-      rw (before, here, x) (part-later i xs j (block-sixteen c a s ch k z) (open-below c a s ch z k) (omega (arith, mod-lt f (per-some c a), length-block c a s ch k)))
+      let here : heardAt c a bytes ch f ≡ getD (trackedPart i xs) (suc j) silent =
+      heard-tracked f h ∙ ap (λ (m : ℕ). getD (trackedPart i xs) m silent) e in
+      let x : frameOf c s ch f ≡ getD xs (suc j) (pos 0) =
+      sym (frame-is f h) ∙ ap (λ (m : ℕ). getD xs m (pos 0)) e in
+      rw (before, here, x) (part-later i xs j (block-sixteen c a s ch k z) (open-below c a s ch z k)
+      (omega (arith, mod-lt f (per-some c a), length-block c a s ch k)))
 
-  chased-frame : (f : ℕ) → f < length s / c → chasedAt c a s bytes ch f ≡ getD (chasedBlock c a s ch (f / p)) (f % p) false
+  chased-frame : (f : ℕ) → f < length s / c
+      → chasedAt c a s bytes ch f ≡ getD (chasedBlock c a s ch (f / p)) (f % p) false
   unfolding chasedAt chasedBlock
   chased-frame f h =
       let n : ℕ = samplesPerBlock c a in
       let k : ℕ = f / n in
       let i : ℕ = openIndex c a s ch k in
       let xs : List ℤ = blockOf c a s ch k in
-      by-ltb 0 (f % n) (λ b. (b && isChased (heardAt c a bytes ch (f - 1)) (frameOf c s ch f)) ≡ getD (chasedPart i xs) (f % n) false)
+      by-ltb 0 (f % n) (λ b. (b && isChased (heardAt c a bytes ch (f - 1)) (frameOf c s ch f))
+      ≡ getD (chasedPart i xs) (f % n) false)
       (λ g.
       let j : ℕ = f % n - 1 in
       let e : f % n ≡ suc j = omega arith in
-      let x : frameOf c s ch f ≡ getD xs (suc j) (pos 0) = sym (frame-is f h) ∙ ap (λ (m : ℕ). getD xs m (pos 0)) e in
+      let x : frameOf c s ch f ≡ getD xs (suc j) (pos 0) =
+      sym (frame-is f h) ∙ ap (λ (m : ℕ). getD xs m (pos 0)) e in
       ap (λ (t : State). isChased t (frameOf c s ch f)) (heard-before f h g)
       ∙ ap (isChased (getD (trackedPart i xs) j silent)) x
       ∙ sym (part-chased i xs j (omega (arith, mod-lt f (per-some c a), length-block c a s ch k)))
@@ -163,27 +176,32 @@ module _ (c a : ℕ) (s : List ℤ) (ch : ℕ) (w : Codable c a) (z : Sixteen s)
       values-at (chasedAt c a s bytes ch) 0 n f false h
       ∙ ap (chasedAt c a s bytes ch) (zero-add f)
       ∙ chased-frame f h
-      ∙ sym (getD-take n js f false h ∙ joined-element (chasedBlock c a s ch) (samplesPerBlock c a) (blocksFor c a (length s)) f false block-long (per-some c a) (omega (arith, blocks-enough c a (length s)))))
+      ∙ sym (getD-take n js f false h
+      ∙ joined-element (chasedBlock c a s ch) (samplesPerBlock c a) (blocksFor c a (length s)) f false block-long
+      (per-some c a) (omega (arith, blocks-enough c a (length s)))))
 
   in-succession : atMost 11 (chasedFrames c a s bytes ch) ≡ true
   unfolding atMost chasedIn
   in-succession =
       ap (within 11 11) chased-frames
-      ∙ calm-take 11 11 (length s / c) (joined (values (chasedBlock c a s ch) 0 (blocksFor c a (length s)))) (blocks-calm c a s ch z 0 (blocksFor c a (length s)) 11)
+      ∙ calm-take 11 11 (length s / c) (joined (values (chasedBlock c a s ch) 0 (blocksFor c a (length s))))
+      (blocks-calm c a s ch z 0 (blocksFor c a (length s)) 11)
 
 -- ---- the counts
 counted : (c a : ℕ) (s : List ℤ) (ch : ℕ) → Codable c a → Sixteen s → length s % c ≡ 0
     → chasedCount c a s ch ≡ cond (ltb ch c) (countOf (chasedFrames c a s (encodedBytes c a s) ch)) 0
 unfolding chasedCount
 counted c a s ch w z r =
-    by-ltb ch c (λ b. cond b (countOf (take (length s / c) (chasedIn c a s ch))) 0 ≡ cond b (countOf (chasedFrames c a s (encodedBytes c a s) ch)) 0)
+    by-ltb ch c (λ b. cond b (countOf (take (length s / c) (chasedIn c a s ch))) 0
+    ≡ cond b (countOf (chasedFrames c a s (encodedBytes c a s) ch)) 0)
     (λ h. ap countOf (sym (chased-frames c a s ch w z r h)))
     (λ h. refl)
 
 counted-left : (c a : ℕ) (s : List ℤ) → Codable c a → Sixteen s → length s % c ≡ 0
     → chasedCount c a s 0 ≡ countOf (chasedFrames c a s (encodedBytes c a s) 0)
 counted-left c a s w z r =
-    counted c a s 0 w z r ∙ ap (λ (b : Bool). cond b (countOf (chasedFrames c a s (encodedBytes c a s) 0)) 0) (lt-ltb 0 c (w .some))
+    counted c a s 0 w z r
+    ∙ ap (λ (b : Bool). cond b (countOf (chasedFrames c a s (encodedBytes c a s) 0)) 0) (lt-ltb 0 c (w .some))
 
 -- ---- an answer that is blocks
 abbrev within-answer : Written → Encoded → Written
@@ -203,7 +221,7 @@ quality s c a room w z e =
     record {
       opening = λ ch f l h g. opens-exact c a s ch (t .fine) z (t .whole) l f h g;
       later = λ ch f l h g. later-near c a s ch (t .fine) z (t .whole) l f h g;
-      succession = λ ch l. in-succession c a s ch (t .fine) z (t .whole) l;
+      succession = λ ch l. search (in-succession c a s ch (t .fine) z (t .whole) l);
       lefts = ap (λ (u : Written). u .left .0) (sym (v .1)) ∙ counted-left c a s (t .fine) z (t .whole);
       rights = ap (λ (u : Written). u .right .0) (sym (v .1)) ∙ counted c a s 1 (t .fine) z (t .whole);
     }
@@ -212,7 +230,8 @@ quality s c a room w z e =
 pub tracked-back : Tracked
 unfolding Tracked encoding trackedAt
 tracked-back s c a room w z e ch f l h =
-    let t : Settled (length s) c a room = settled-says (length s) c a room (accepted (encodeVerdict (length s) c a room) e .0) in
+    let t : Settled (length s) c a room =
+    settled-says (length s) c a room (accepted (encodeVerdict (length s) c a room) e .0) in
     heard-tracked c a s ch (t .fine) z (t .whole) l f h
 
 -- ---- the number of an answer: each demand is a row

@@ -15,7 +15,7 @@ use Rattle.ima.specs.Examples.{coded, written, headed, examples, Worked}
 
 pub worked : Worked
 unfolding Worked examples coded written headed codeFor tracked isChased decoded codeOf bitsFor bitIf leftOf stepAt hasBit sizeOf signedBy difference indexFrom hold codesOf after chasedOf headersFine channelPart opened every picked sampleAt numberAt numberIn signedOf encodedBytes chasedCount chasedIn chasedBlock blockBytes partOf blocksFor samplesPerBlock blockOf openIndex taken packed headBytes codedPart closingIndex chasedPart countOf values joined inTurn sampleBytes bytesOf bitsOf
-worked = refl
+worked = search
 
 pub reached : Reached
 unfolding Reached heardAt chasedAt chasedFrames frameOf blockIn atMost within run nibbles statesIn codeFor tracked isChased decoded codeOf bitsFor bitIf leftOf stepAt hasBit sizeOf signedBy difference indexFrom hold codesOf after channelPart opened picked sampleAt numberAt numberIn signedOf encodedBytes blockBytes partOf blocksFor samplesPerBlock blockOf openIndex taken packed headBytes codedPart closingIndex values joined inTurn sampleBytes bytesOf bitsOf

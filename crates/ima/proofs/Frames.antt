@@ -1,19 +1,14 @@
 -- Frames of the sound in the blocks of a channel, and the laws of samples in succession. Assumes nothing.
-use mathlib.Core.Path.{_≡_, refl, sym, ap, _∙_, subst}
-use mathlib.Core.Bool.{Bool, true, false, cond}
+use mathlib.Core.Path.{_≡_, refl, ap, _∙_}
+use mathlib.Core.Bool.{Bool, true, false}
 use mathlib.Core.List.{List, [], _∷_, _++_}
 use Prim.Native.Nat.{ℕ, zero, suc, _+_, _-_, _*_, _/_, _%_, _≤_, _<_, min}
-use native.Mathlib.Nat.{mul-suc, mul-zero, mul-add, mul-one, mul-comm, mul-le-mul-left, div-add-mod, add-zero, add-mul-div-right, add-mul-mod-self-right, div-eq-of-lt, mod-eq-of-lt, mod-lt, div-add-mod', div-lt-iff-lt-mul, lt-mul-div-succ}
-use native.Mathlib.Numerals.{add-one}
+use native.Mathlib.Nat.{mul-suc, mul-zero, mul-add, mul-one, mul-comm, mul-le-mul-left, div-add-mod, add-mul-div-right, add-mul-mod-self-right, div-eq-of-lt, mod-eq-of-lt, mod-lt, div-add-mod', div-lt-iff-lt-mul, lt-mul-div-succ}
 use native.Mathlib.Omega.{arith}
 use lib.IntN.{ℤ, pos}
-use lib.ListN.{length, take, getD, length-append}
-use mir.Syntax.{w16}
-use mir.Val.{SFits}
+use lib.ListN.{length, take, getD}
 use Rattle.lists.specs.Turns.{values, joined}
-use Rattle.steps.specs.declared.State.{State}
-use Rattle.steps.specs.Machine.{after, chasedOf}
-use Rattle.steps.specs.Quality.{InRange, Sixteen, within, atMost}
+use Rattle.steps.specs.Quality.{Sixteen, within, atMost}
 use Rattle.steps.proofs.Machine.{sixteen-none, sixteen-more, sixteen-first, sixteen-rest, after-in-range}
 use Rattle.steps.proofs.Climb.{eleven-at-most}
 use Rattle.blocks.specs.Block.{samplesPerBlock}
@@ -26,9 +21,11 @@ use Rattle.ima.proofs.Blocks.{per-some}
 taken-sixteen : {s : List ℤ} (stride last x n : ℕ) → Sixteen s → Sixteen (taken s stride last x n)
 unfolding taken
 taken-sixteen stride last x zero f = sixteen-none
-taken-sixteen stride last x (suc n) f = sixteen-more (f .at (min x last)) (taken-sixteen stride last (x + stride) n f)
+taken-sixteen stride last x (suc n) f =
+    sixteen-more (f .at (min x last)) (taken-sixteen stride last (x + stride) n f)
 
-taken-at : (s : List ℤ) (stride last x n j : ℕ) → j < n → getD (taken s stride last x n) j (pos 0) ≡ getD s (min (x + stride * j) last) (pos 0)
+taken-at : (s : List ℤ) (stride last x n j : ℕ) → j < n
+    → getD (taken s stride last x n) j (pos 0) ≡ getD s (min (x + stride * j) last) (pos 0)
 unfolding taken
 taken-at s stride last x zero j h = absurd (omega arith)
 taken-at s stride last x (suc n) zero h =
@@ -41,10 +38,12 @@ taken-at s stride last x (suc n) (suc j) h =
 module _ (c a : ℕ) (s : List ℤ) (ch : ℕ) where
   pub block-sixteen : (k : ℕ) → Sixteen s → Sixteen (blockOf c a s ch k)
   unfolding blockOf
-  block-sixteen k f = taken-sixteen c (length s - c + ch) (c * (k * samplesPerBlock c a) + ch) (samplesPerBlock c a) f
+  block-sixteen k f = taken-sixteen c (length s - c + ch) (c * (k * samplesPerBlock c a) + ch)
+      (samplesPerBlock c a) f
 
   -- sample j of block k is a frame of the sound, where the sound has it
-  pub block-frame : (k j : ℕ) → length s % c ≡ 0 → j < samplesPerBlock c a → k * samplesPerBlock c a + j < length s / c
+  pub block-frame : (k j : ℕ) → length s % c ≡ 0 → j < samplesPerBlock c a
+      → k * samplesPerBlock c a + j < length s / c
       → getD (blockOf c a s ch k) j (pos 0) ≡ frameOf c s ch (k * samplesPerBlock c a + j)
   unfolding blockOf frameOf
   block-frame k j e h g =
@@ -52,21 +51,25 @@ module _ (c a : ℕ) (s : List ℤ) (ch : ℕ) where
       let m : c * (f + 1) ≤ c * (length s / c) = mul-le-mul-left c (omega arith) in
       let p : c * (f + 1) ≡ c * f + c = mul-add c f 1 ∙ ap (λ (n : ℕ). c * f + n) (mul-one c) in
       let q : c * f ≡ c * (k * samplesPerBlock c a) + c * j = mul-add c (k * samplesPerBlock c a) j in
-      let o : min (c * (k * samplesPerBlock c a) + ch + c * j) (length s - c + ch) ≡ c * f + ch = omega (arith, div-add-mod (length s) c) in
-      taken-at s c (length s - c + ch) (c * (k * samplesPerBlock c a) + ch) (samplesPerBlock c a) j h ∙ ap (λ (n : ℕ). getD s n (pos 0)) o
+      let o : min (c * (k * samplesPerBlock c a) + ch + c * j) (length s - c + ch) ≡ c * f + ch =
+      omega (arith, div-add-mod (length s) c) in
+      taken-at s c (length s - c + ch) (c * (k * samplesPerBlock c a) + ch) (samplesPerBlock c a) j h
+      ∙ ap (λ (n : ℕ). getD s n (pos 0)) o
 
   -- every block opens in range
   pub open-below : Sixteen s → (k : ℕ) → openIndex c a s ch k < 89
   unfolding openIndex closingIndex
   open-below f zero = omega arith
-  open-below f (suc k) = closing-below (openIndex c a s ch k) (blockOf c a s ch k) (open-below f k) (block-sixteen k f)
+  open-below f (suc k) =
+      closing-below (openIndex c a s ch k) (blockOf c a s ch k) (open-below f k) (block-sixteen k f)
     where
       closing-below : (i : ℕ) (xs : List ℤ) → i < 89 → Sixteen xs → closingIndex i xs < 89
       closing-below i [] h s = h
       closing-below i (x ∷ xs) h s = after-in-range xs (record { last = sixteen-first s; index = h }) .index
 
 -- ---- in succession
-calm-append : (n k : ℕ) (bs cs : List Bool) → within n k bs ≡ true → ((m : ℕ) → within n m cs ≡ true) → within n k (bs ++ cs) ≡ true
+calm-append : (n k : ℕ) (bs cs : List Bool) → within n k bs ≡ true → ((m : ℕ) → within n m cs ≡ true)
+    → within n k (bs ++ cs) ≡ true
 unfolding within
 calm-append n k [] cs e f = f k
 calm-append n k (false ∷ bs) cs e f = calm-append n n bs cs e f
@@ -87,7 +90,8 @@ unfolding chasedPart within atMost
 part-calm i k [] s h = refl
 part-calm i k (x ∷ xs) s h = eleven-at-most (record { last = sixteen-first s; index = h }) (sixteen-rest s)
 
-pub blocks-calm : (c a : ℕ) (s : List ℤ) (ch : ℕ) → Sixteen s → (i n k : ℕ) → within 11 k (joined (values (chasedBlock c a s ch) i n)) ≡ true
+pub blocks-calm : (c a : ℕ) (s : List ℤ) (ch : ℕ) → Sixteen s → (i n k : ℕ)
+    → within 11 k (joined (values (chasedBlock c a s ch) i n)) ≡ true
 unfolding values joined chasedBlock within
 blocks-calm c a s ch f i zero k = refl
 blocks-calm c a s ch f i (suc n) k =
@@ -101,12 +105,14 @@ module _ (p f : ℕ) (h : 1 ≤ p) where
   pub same-block : 0 < f % p → (f - 1) / p ≡ f / p
   same-block g =
       let e : f - 1 ≡ f % p - 1 + f / p * p = omega (arith, div-add-mod' f p) in
-      ap (λ (n : ℕ). n / p) e ∙ add-mul-div-right (f % p - 1) (f / p) h ∙ ap (λ (n : ℕ). n + f / p) (div-eq-of-lt {n = f % p - 1} (omega (arith, mod-lt f h))) ∙ omega arith
+      ap (λ (n : ℕ). n / p) e ∙ add-mul-div-right (f % p - 1) (f / p) h
+      ∙ ap (λ (n : ℕ). n + f / p) (div-eq-of-lt {n = f % p - 1} (omega (arith, mod-lt f h))) ∙ omega arith
 
   pub one-before : 0 < f % p → (f - 1) % p ≡ f % p - 1
   one-before g =
       let e : f - 1 ≡ f % p - 1 + f / p * p = omega (arith, div-add-mod' f p) in
-      ap (λ (n : ℕ). n % p) e ∙ add-mul-mod-self-right (f % p - 1) (f / p) p ∙ mod-eq-of-lt {n = f % p - 1} (omega (arith, mod-lt f h))
+      ap (λ (n : ℕ). n % p) e ∙ add-mul-mod-self-right (f % p - 1) (f / p) p
+      ∙ mod-eq-of-lt {n = f % p - 1} (omega (arith, mod-lt f h))
 
 module _ (c a n : ℕ) where
   pub blocks-enough : n / c ≤ blocksFor c a n * samplesPerBlock c a

@@ -1,12 +1,10 @@
--- Decoding what was written: each channel's part of a block is found again, and goes through the states of encoding. Assumes nothing.
+-- Decoding what was written: the part of each channel is found again, with encoding's states. Assumes nothing.
 use mathlib.Core.Path.{_≡_, refl, sym, ap, _∙_, subst}
-use mathlib.Core.Bool.{Bool, false}
 use mathlib.Core.List.{List, [], _∷_, _++_}
-use Prim.Native.Nat.{ℕ, zero, suc, _+_, _-_, _*_, _/_, _%_, _≤_, _<_, min}
-use native.Mathlib.Nat.{mul-suc, mul-zero, mul-add, mul-le-mul-left, div-add-mod, add-zero}
+use Prim.Native.Nat.{ℕ, zero, suc, _+_, _-_, _*_, _/_, _%_, _≤_, _<_}
 use native.Mathlib.Omega.{arith}
-use lib.IntN.{ℤ, pos}
-use lib.ListN.{length, take, drop, getD}
+use lib.IntN.{ℤ}
+use lib.ListN.{length, drop}
 use mir.Syntax.{w16}
 use mir.Val.{SFits}
 use mir.Facts.{fits-ofZ}
@@ -18,12 +16,12 @@ use Rattle.lists.specs.Turns.{values, inTurn, picked}
 use Rattle.lists.proofs.Turns.{Long, picked-turn, values-long, values-at, joined-at}
 use Rattle.steps.specs.declared.State.{State}
 use Rattle.steps.specs.Code.{codeFor, tracked}
-use Rattle.steps.specs.Machine.{run, codesOf, after, trackedAll}
-use Rattle.steps.specs.Quality.{InRange, Sixteen}
+use Rattle.steps.specs.Machine.{codesOf}
+use Rattle.steps.specs.Quality.{Sixteen}
 use Rattle.steps.proofs.Coding.{code-below}
-use Rattle.steps.proofs.Machine.{run-tracks, sixteen-none, sixteen-more, sixteen-first, after-in-range}
+use Rattle.steps.proofs.Machine.{run-tracks, sixteen-first}
 use Rattle.blocks.specs.Block.{samplesPerBlock, channelPart, opened, nibbles, statesIn}
-use Rattle.coder.specs.Part.{taken, packed, headBytes, codedPart, closingIndex}
+use Rattle.coder.specs.Part.{packed, headBytes, codedPart}
 use Rattle.ima.specs.Encoding.{blockOf, openIndex, partOf, blockBytes, blocksFor, encodedBytes}
 use Rattle.ima.specs.Demands.{blockIn, trackedPart}
 use Rattle.ima.proofs.Settling.{Codable}
@@ -44,24 +42,28 @@ nibbles-back t (x ∷ y ∷ xs) (suc n) e =
     rw (a, b) (ap (λ (r : List ℕ). k ∷ l ∷ r) (nibbles-back (tracked (tracked t x) y) xs n (omega arith)))
 
 -- ---- a header
-opened-back : (x : ℤ) (i : ℕ) (r : List ℕ) → SFits w16 x → opened (headBytes x i ++ r) ≡ record { last = x; index = i }
+opened-back : (x : ℤ) (i : ℕ) (r : List ℕ) → SFits w16 x
+    → opened (headBytes x i ++ r) ≡ record { last = x; index = i }
 unfolding opened headBytes sampleAt sampleBytes bytesOf numberAt bitsOf
 opened-back x i r f =
-    ap (λ (n : ℕ). record { last = signedOf n; index = i }) (bytes-say 2 (bitsOf x) (fits-ofZ f .fits)) ∙ ap (λ (z : ℤ). record { last = z; index = i }) (signed-bits f)
+    ap (λ (n : ℕ). record { last = signedOf n; index = i }) (bytes-say 2 (bitsOf x) (fits-ofZ f .fits))
+    ∙ ap (λ (z : ℤ). record { last = z; index = i }) (signed-bits f)
 
 behind-head : (x : ℤ) (i : ℕ) (r : List ℕ) → drop 4 (headBytes x i ++ r) ≡ r
 unfolding headBytes sampleBytes bytesOf
 behind-head x i r = refl
 
 -- ---- a block of a channel
-pub part-heard : (i g : ℕ) (xs : List ℤ) → Sixteen xs → length xs ≡ 8 * g + 1 → statesIn (codedPart i xs) ≡ trackedPart i xs
+pub part-heard : (i g : ℕ) (xs : List ℤ) → Sixteen xs → length xs ≡ 8 * g + 1
+    → statesIn (codedPart i xs) ≡ trackedPart i xs
 unfolding statesIn codedPart trackedPart
 part-heard i g [] s e = absurd (omega arith)
 part-heard i g (x ∷ xs) s e =
     let t : State = record { last = x; index = i } in
     let ks : List ℕ = packed (codesOf t xs) in
     let o : opened (headBytes x i ++ ks) ≡ t = opened-back x i ks (sixteen-first s) in
-    let n : nibbles (drop 4 (headBytes x i ++ ks)) ≡ codesOf t xs = ap nibbles (behind-head x i ks) ∙ nibbles-back t xs (4 * g) (omega arith) in
+    let n : nibbles (drop 4 (headBytes x i ++ ks)) ≡ codesOf t xs =
+    ap nibbles (behind-head x i ks) ∙ nibbles-back t xs (4 * g) (omega arith) in
     rw (o, n) (ap (λ (l : List State). t ∷ l) (run-tracks t xs))
 
 -- ---- one or two channels
@@ -102,7 +104,8 @@ module _ {c a : ℕ} (w : Codable c a) where
   length-part-of : (s : List ℤ) (k ch : ℕ) → length (partOf c a s k ch) ≡ 4 * (a / (4 * c))
   unfolding partOf
   length-part-of s k ch =
-      length-coded (openIndex c a s ch k) (a / (4 * c) - 1) (blockOf c a s ch k) (length-block c a s ch k ∙ per-is) ∙ omega (arith, some-groups)
+      length-coded (openIndex c a s ch k) (a / (4 * c) - 1) (blockOf c a s ch k) (length-block c a s ch k ∙ per-is)
+      ∙ omega (arith, some-groups)
 
   long-parts : (s : List ℤ) (k i n : ℕ) → Long (4 * (a / (4 * c))) (values (partOf c a s k) i n)
   unfolding values
@@ -124,7 +127,8 @@ module _ {c a : ℕ} (w : Codable c a) where
       ∙ ap (partOf c a s k) z
 
   -- block k of all that was written
-  pub block-back : (s : List ℤ) (k : ℕ) → k < blocksFor c a (length s) → blockIn a (encodedBytes c a s) k ≡ blockBytes c a s k
+  pub block-back : (s : List ℤ) (k : ℕ) → k < blocksFor c a (length s)
+      → blockIn a (encodedBytes c a s) k ≡ blockBytes c a s k
   unfolding blockIn encodedBytes
   block-back s k h =
       let z : 0 + k ≡ k = omega arith in

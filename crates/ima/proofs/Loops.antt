@@ -1,13 +1,11 @@
 -- The loops over blocks: what is left to write makes the whole, and every turn writes a block. Assumes nothing.
 use mathlib.Core.Path.{_≡_, refl, sym, ap, _∙_, subst}
-use mathlib.Core.Bool.{Bool}
-use mathlib.Core.List.{List, [], _∷_, _++_}
-use Prim.Native.Nat.{ℕ, zero, suc, _+_, _-_, _*_, _/_, _%_, _≤_, _<_}
+use mathlib.Core.List.{List, [], _∷_}
+use Prim.Native.Nat.{ℕ, _+_, _-_, _*_, _/_, _%_, _≤_, _<_}
 use native.Mathlib.Nat.{zero-mul, sub-zero, mul-le-mul-right}
 use native.Mathlib.Omega.{arith}
 use lib.IntN.{ℤ}
-use lib.ListN.{length, take, length-append}
-use lib.Seq.{take-nil}
+use lib.ListN.{length, length-append}
 use mir.Syntax.{w64}
 use mir.Val.{Fits}
 use Rattle.little.specs.Writing.{Put, front}
@@ -18,10 +16,10 @@ use Rattle.steps.specs.Machine.{codesOf}
 use Rattle.blocks.specs.Block.{samplesPerBlock}
 use Rattle.coder.specs.declared.Channel.{Channel}
 use Rattle.coder.specs.declared.Channels.{Channels}
-use Rattle.coder.specs.Part.{taken, packed, headBytes, codedPart, countOf, channelAfterBlock}
+use Rattle.coder.specs.Part.{taken, packed, headBytes, codedPart, channelAfterBlock}
 use Rattle.coder.proofs.Heads.{length-head}
 use Rattle.coder.proofs.Runs.{length-bytes}
-use Rattle.ima.specs.Encoding.{blockOf, openIndex, partOf, chasedBlock, blockBytes, blocksFor, encodedBytes, chasedIn, chasedCount}
+use Rattle.ima.specs.Encoding.{blockOf, openIndex, partOf, blockBytes, blocksFor, encodedBytes, chasedCount}
 use Rattle.ima.proofs.Settling.{Codable}
 use Rattle.ima.proofs.Blocks.{per-mono, per-stereo, next-times, begun, length-block, Sofar, sofar-begins, sofar-next, sofar-ends}
 
@@ -38,25 +36,31 @@ length-coded i g (x ∷ xs) e =
 pub length-mono : (a : ℕ) (s : List ℤ) (k : ℕ) → Codable 1 a → length (blockBytes 1 a s k) ≡ a
 unfolding blockBytes partOf values
 length-mono a s k w =
-    let l = length-coded (openIndex 1 a s 0 k) (a / 4 - 1) (blockOf 1 a s 0 k) (length-block 1 a s 0 k ∙ per-mono w) in
+    let l = length-coded (openIndex 1 a s 0 k) (a / 4 - 1) (blockOf 1 a s 0 k)
+    (length-block 1 a s 0 k ∙ per-mono w) in
     turn-long 4 (a / 4) (codedPart (openIndex 1 a s 0 k) (blockOf 1 a s 0 k) ∷ []) (l ∙ omega (arith, w .least), tt)
     ∙ omega (arith, w .whole)
 
 pub length-stereo : (a : ℕ) (s : List ℤ) (k : ℕ) → Codable 2 a → length (blockBytes 2 a s k) ≡ a
 unfolding blockBytes partOf values
 length-stereo a s k w =
-    let l = length-coded (openIndex 2 a s 0 k) (a / 8 - 1) (blockOf 2 a s 0 k) (length-block 2 a s 0 k ∙ per-stereo w) in
-    let r = length-coded (openIndex 2 a s 1 k) (a / 8 - 1) (blockOf 2 a s 1 k) (length-block 2 a s 1 k ∙ per-stereo w) in
-    turn-long 4 (a / 8) (codedPart (openIndex 2 a s 0 k) (blockOf 2 a s 0 k) ∷ codedPart (openIndex 2 a s 1 k) (blockOf 2 a s 1 k) ∷ [])
+    let l = length-coded (openIndex 2 a s 0 k) (a / 8 - 1) (blockOf 2 a s 0 k)
+    (length-block 2 a s 0 k ∙ per-stereo w) in
+    let r = length-coded (openIndex 2 a s 1 k) (a / 8 - 1) (blockOf 2 a s 1 k)
+    (length-block 2 a s 1 k ∙ per-stereo w) in
+    turn-long 4 (a / 8) (codedPart (openIndex 2 a s 0 k) (blockOf 2 a s 0 k)
+    ∷ codedPart (openIndex 2 a s 1 k) (blockOf 2 a s 1 k) ∷ [])
     (l ∙ omega (arith, w .least), (r ∙ omega (arith, w .least), tt))
     ∙ omega (arith, w .whole)
 
-same-taken : (s : List ℤ) (stride : ℕ) {k l x y m n : ℕ} → k ≡ l → x ≡ y → m ≡ n → taken s stride k x m ≡ taken s stride l y n
+same-taken : (s : List ℤ) (stride : ℕ) {k l x y m n : ℕ} → k ≡ l → x ≡ y → m ≡ n
+    → taken s stride k x m ≡ taken s stride l y n
 same-taken s stride {k} {l} {x} {y} {m} {n} e f g =
     ap (λ (i : ℕ). taken s stride i x m) e ∙ ap (λ (i : ℕ). taken s stride l i m) f ∙ ap (taken s stride l y) g
 
 -- ---- mono
-pub record Mono (s : List ℤ) (a n : ℕ) (out₀ : List ℕ) (groups : ℕ) (t : Channel) (frame to i : ℕ) (out : List ℕ) : Type 0 where
+pub record Mono (s : List ℤ) (a n : ℕ) (out₀ : List ℕ) (groups : ℕ) (t : Channel) (frame to i : ℕ)
+    (out : List ℕ) : Type 0 where
   pub fine : Codable 1 a
   pub small : length s ≤ 536870912
   pub blocks : n ≡ blocksFor 1 a (length s)
@@ -68,7 +72,8 @@ pub record Mono (s : List ℤ) (a n : ℕ) (out₀ : List ℕ) (groups : ℕ) (t
   pub sofar : Sofar 1 a s 0 i t
   pub filled : Filled (encodedBytes 1 a s) (joined (values (blockBytes 1 a s) i (n - i))) to out out₀
 
-pub mono-begins : {s : List ℤ} {a n : ℕ} {out : List ℕ} {t : Channel} → a % 4 ≡ 0 → 8 ≤ a → a ≤ 4096 → length s ≤ 536870912 → n ≡ blocksFor 1 a (length s)
+pub mono-begins : {s : List ℤ} {a n : ℕ} {out : List ℕ} {t : Channel} → a % 4 ≡ 0 → 8 ≤ a → a ≤ 4096
+    → length s ≤ 536870912 → n ≡ blocksFor 1 a (length s)
     → n * a ≤ length out → t .state .index ≡ 0 → t .chased ≡ 0 → Mono s a n out (a / 4 - 1) t 0 0 0 out
 unfolding encodedBytes
 mono-begins {s} {a} {n} {out} {t} w l m k b r e f =
@@ -97,7 +102,7 @@ module _ {s : List ℤ} {a n : ℕ} {out₀ : List ℕ} {groups : ℕ} {t : Chan
     pub mono-frame : frame < length s
     mono-frame = omega (arith, w .frames, begun 1 a (length s) i among)
 
-    pub mono-groups : groups ≤ 1023
+    mono-groups : groups ≤ 1023
     mono-groups = omega (arith, w .eights, w .fine .most)
 
     align-is : 4 * (groups + 1) ≡ a
@@ -106,7 +111,7 @@ module _ {s : List ℤ} {a n : ℕ} {out₀ : List ℕ} {groups : ℕ} {t : Chan
     pub mono-room : to + 4 * groups + 4 ≤ length out
     mono-room = omega (arith, w .bytes, w .room, w .filled .long, next-times i a, mul-le-mul-right {m = i + 1} {n = n} a (omega arith), align-is)
 
-    pub mono-next-room : to + a ≤ length out
+    mono-next-room : to + a ≤ length out
     mono-next-room = omega (arith, mono-room, align-is)
 
     pub mono-fits : t .chased + 8 * groups < 4294967296
@@ -114,9 +119,6 @@ module _ {s : List ℤ} {a n : ℕ} {out₀ : List ℕ} {groups : ℕ} {t : Chan
 
     pub mono-frame-fits : Fits w64 (frame + (8 * groups + 1))
     mono-frame-fits = record { fits = omega (arith, mono-frame, w .small, mono-groups) }
-
-    pub mono-good : t .state .index < 89
-    mono-good = w .sofar .good
 
     block-is : taken s 1 (length s - 1) frame (8 * groups + 1) ≡ blockOf 1 a s 0 i
     unfolding blockOf
@@ -130,13 +132,15 @@ module _ {s : List ℤ} {a n : ℕ} {out₀ : List ℕ} {groups : ℕ} {t : Chan
     part-is =
         let xs : List ℤ = blockOf 1 a s 0 i in
         let l : length (codedPart (openIndex 1 a s 0 i) xs) ≡ 4 * (a / 4) =
-        length-coded (openIndex 1 a s 0 i) groups xs (length-block 1 a s 0 i ∙ per) ∙ omega (arith, w .eights, w .fine .least) in
+        length-coded (openIndex 1 a s 0 i) groups xs (length-block 1 a s 0 i ∙ per)
+        ∙ omega (arith, w .eights, w .fine .least) in
         ap (codedPart (t .state .index)) block-is
         ∙ ap (λ (k : ℕ). codedPart k xs) (w .sofar .index)
         ∙ sym (turn-one 4 (a / 4) (codedPart (openIndex 1 a s 0 i) xs) l)
 
     pub mono-next : {r : Channel} {f : List ℕ}
-        → (r ≡ channelAfterBlock t (length s - frame) (taken s 1 (length s - 1) frame (8 * groups + 1))) × (r .state .index < 89) × (r .chased ≤ t .chased + 8 * groups)
+        → (r ≡ channelAfterBlock t (length s - frame) (taken s 1 (length s - 1) frame (8 * groups + 1)))
+        × (r .state .index < 89) × (r .chased ≤ t .chased + 8 * groups)
         × Put out to (codedPart (t .state .index) (taken s 1 (length s - 1) frame (8 * groups + 1))) f
         → Mono s a n out₀ groups r (frame + (8 * groups + 1)) (to + a) (i + 1) f
     mono-next {r} {f} (e, g, c, p) =
@@ -144,7 +148,8 @@ module _ {s : List ℤ} {a n : ℕ} {out₀ : List ℕ} {groups : ℕ} {t : Chan
         let l : length (blockBytes 1 a s i) ≡ a = length-mono a s i (w .fine) in
         let k : length s - frame ≡ length s / 1 - i * samplesPerBlock 1 a = omega (arith, w .frames) in
         let e′ : r ≡ channelAfterBlock t (length s / 1 - i * samplesPerBlock 1 a) (blockOf 1 a s 0 i) =
-        e ∙ ap (λ (m : ℕ). channelAfterBlock t m (taken s 1 (length s - 1) frame (8 * groups + 1))) k ∙ ap (channelAfterBlock t (length s / 1 - i * samplesPerBlock 1 a)) block-is in
+        e ∙ ap (λ (m : ℕ). channelAfterBlock t m (taken s 1 (length s - 1) frame (8 * groups + 1))) k
+        ∙ ap (channelAfterBlock t (length s / 1 - i * samplesPerBlock 1 a)) block-is in
         record {
           fine = w .fine;
           small = w .small;
@@ -170,12 +175,14 @@ module _ {s : List ℤ} {a n : ℕ} {out₀ : List ℕ} {groups : ℕ} {t : Chan
     unfolding values joined
     mono-written =
         let k : n - i ≡ 0 = omega arith in
-        filled-all (subst (λ (m : ℕ). Filled (encodedBytes 1 a s) (joined (values (blockBytes 1 a s) i m)) to out out₀) k (w .filled))
+        filled-all (subst (λ (m : ℕ). Filled (encodedBytes 1 a s)
+        (joined (values (blockBytes 1 a s) i m)) to out out₀) k (w .filled))
 
-pub ruleset mono-coding = (mono-begins, mono-frame, mono-frame-fits, mono-groups, mono-room, mono-next-room, mono-fits, mono-good, mono-next, mono-chased, mono-written)
+pub ruleset mono-coding = (mono-begins, mono-frame, mono-frame-fits, mono-room, mono-fits, mono-next, mono-chased, mono-written)
 
 -- ---- stereo
-pub record Stereo (s : List ℤ) (a n : ℕ) (out₀ : List ℕ) (groups : ℕ) (t : Channels) (at to i : ℕ) (out : List ℕ) : Type 0 where
+pub record Stereo (s : List ℤ) (a n : ℕ) (out₀ : List ℕ) (groups : ℕ) (t : Channels) (at to i : ℕ)
+    (out : List ℕ) : Type 0 where
   pub fine : Codable 2 a
   pub small : length s ≤ 536870912
   pub blocks : n ≡ blocksFor 2 a (length s)
@@ -188,8 +195,10 @@ pub record Stereo (s : List ℤ) (a n : ℕ) (out₀ : List ℕ) (groups : ℕ) 
   pub right-sofar : Sofar 2 a s 1 i (t .right)
   pub filled : Filled (encodedBytes 2 a s) (joined (values (blockBytes 2 a s) i (n - i))) to out out₀
 
-pub stereo-begins : {s : List ℤ} {a n : ℕ} {out : List ℕ} {t : Channels} → a % 8 ≡ 0 → 16 ≤ a → a ≤ 4096 → length s ≤ 536870912 → n ≡ blocksFor 2 a (length s)
-    → n * a ≤ length out → t .left .state .index ≡ 0 → t .left .chased ≡ 0 → t .right .state .index ≡ 0 → t .right .chased ≡ 0
+pub stereo-begins : {s : List ℤ} {a n : ℕ} {out : List ℕ} {t : Channels} → a % 8 ≡ 0 → 16 ≤ a → a ≤ 4096
+    → length s ≤ 536870912 → n ≡ blocksFor 2 a (length s)
+    → n * a ≤ length out → t .left .state .index ≡ 0 → t .left .chased ≡ 0 → t .right .state .index ≡ 0
+    → t .right .chased ≡ 0
     → Stereo s a n out (a / 8 - 1) t 0 0 0 out
 unfolding encodedBytes
 stereo-begins {s} {a} {n} {out} {t} w l m k b r e f g h =
@@ -219,7 +228,7 @@ module _ {s : List ℤ} {a n : ℕ} {out₀ : List ℕ} {groups : ℕ} {t : Chan
     pub stereo-frame : at + 2 ≤ length s
     stereo-frame = omega (arith, w .frames, begun 2 a (length s) i two-among)
 
-    pub stereo-groups : groups ≤ 511
+    stereo-groups : groups ≤ 511
     stereo-groups = omega (arith, w .eights, w .fine .most)
 
     pub stereo-frame-fits : Fits w64 (at + (16 * groups + 2))
@@ -231,7 +240,7 @@ module _ {s : List ℤ} {a n : ℕ} {out₀ : List ℕ} {groups : ℕ} {t : Chan
     pub stereo-room : to + 8 * groups + 8 ≤ length out
     stereo-room = omega (arith, w .bytes, w .room, w .filled .long, next-times i a, mul-le-mul-right {m = i + 1} {n = n} a (omega arith), two-align)
 
-    pub stereo-next-room : to + a ≤ length out
+    stereo-next-room : to + a ≤ length out
     stereo-next-room = omega (arith, stereo-room, two-align)
 
     pub left-fits : t .left .chased + 8 * groups < 4294967296
@@ -239,12 +248,6 @@ module _ {s : List ℤ} {a n : ℕ} {out₀ : List ℕ} {groups : ℕ} {t : Chan
 
     pub right-fits : t .right .chased + 8 * groups < 4294967296
     right-fits = omega (arith, w .right-sofar .few, begun 2 a (length s) i two-among, w .small, stereo-groups)
-
-    pub left-good : t .left .state .index < 89
-    left-good = w .left-sofar .good
-
-    pub right-good : t .right .state .index < 89
-    right-good = w .right-sofar .good
 
     left-is : taken s 2 (length s - 2) at (8 * groups + 1) ≡ blockOf 2 a s 0 i
     unfolding blockOf
@@ -260,35 +263,47 @@ module _ {s : List ℤ} {a n : ℕ} {out₀ : List ℕ} {groups : ℕ} {t : Chan
         let f : at + 1 ≡ 2 * (i * samplesPerBlock 2 a) + 1 = omega (arith, w .frames) in
         same-taken s 2 e f (sym two-per)
 
-    parts-are : inTurn 4 (groups + 1) (codedPart (t .left .state .index) (taken s 2 (length s - 2) at (8 * groups + 1)) ∷ codedPart (t .right .state .index) (taken s 2 (length s - 1) (at + 1) (8 * groups + 1)) ∷ [])
+    parts-are : inTurn 4 (groups + 1)
+        (codedPart (t .left .state .index) (taken s 2 (length s - 2) at (8 * groups + 1))
+        ∷ codedPart (t .right .state .index) (taken s 2 (length s - 1) (at + 1) (8 * groups + 1)) ∷ [])
         ≡ blockBytes 2 a s i
     unfolding blockBytes partOf values
     parts-are =
         let k : groups + 1 ≡ a / 8 = omega (arith, w .eights, w .fine .least) in
-        let e : codedPart (t .left .state .index) (taken s 2 (length s - 2) at (8 * groups + 1)) ≡ codedPart (openIndex 2 a s 0 i) (blockOf 2 a s 0 i) =
-        ap (codedPart (t .left .state .index)) left-is ∙ ap (λ (m : ℕ). codedPart m (blockOf 2 a s 0 i)) (w .left-sofar .index) in
-        let f : codedPart (t .right .state .index) (taken s 2 (length s - 1) (at + 1) (8 * groups + 1)) ≡ codedPart (openIndex 2 a s 1 i) (blockOf 2 a s 1 i) =
-        ap (codedPart (t .right .state .index)) right-is ∙ ap (λ (m : ℕ). codedPart m (blockOf 2 a s 1 i)) (w .right-sofar .index) in
+        let e : codedPart (t .left .state .index) (taken s 2 (length s - 2) at (8 * groups + 1))
+        ≡ codedPart (openIndex 2 a s 0 i) (blockOf 2 a s 0 i) =
+        ap (codedPart (t .left .state .index)) left-is
+        ∙ ap (λ (m : ℕ). codedPart m (blockOf 2 a s 0 i)) (w .left-sofar .index) in
+        let f : codedPart (t .right .state .index) (taken s 2 (length s - 1) (at + 1) (8 * groups + 1))
+        ≡ codedPart (openIndex 2 a s 1 i) (blockOf 2 a s 1 i) =
+        ap (codedPart (t .right .state .index)) right-is
+        ∙ ap (λ (m : ℕ). codedPart m (blockOf 2 a s 1 i)) (w .right-sofar .index) in
         rw (e, f, k) refl
 
     pub stereo-next : {r : Channels} {f : List ℕ}
-        → (r .left ≡ channelAfterBlock (t .left) ((length s - at) / 2) (taken s 2 (length s - 2) at (8 * groups + 1)))
-        × (r .right ≡ channelAfterBlock (t .right) ((length s - at) / 2) (taken s 2 (length s - 1) (at + 1) (8 * groups + 1)))
+        → (r .left ≡ channelAfterBlock (t .left) ((length s - at) / 2)
+        (taken s 2 (length s - 2) at (8 * groups + 1)))
+        × (r .right ≡ channelAfterBlock (t .right) ((length s - at) / 2)
+        (taken s 2 (length s - 1) (at + 1) (8 * groups + 1)))
         × (r .left .state .index < 89)
         × (r .right .state .index < 89)
         × (r .left .chased ≤ t .left .chased + 8 * groups)
         × (r .right .chased ≤ t .right .chased + 8 * groups)
         × Put out to
-        (inTurn 4 (groups + 1) (codedPart (t .left .state .index) (taken s 2 (length s - 2) at (8 * groups + 1)) ∷ codedPart (t .right .state .index) (taken s 2 (length s - 1) (at + 1) (8 * groups + 1)) ∷ [])) f
+        (inTurn 4 (groups + 1)
+        (codedPart (t .left .state .index) (taken s 2 (length s - 2) at (8 * groups + 1))
+        ∷ codedPart (t .right .state .index) (taken s 2 (length s - 1) (at + 1) (8 * groups + 1)) ∷ [])) f
         → Stereo s a n out₀ groups r (at + (16 * groups + 2)) (to + a) (i + 1) f
     stereo-next {r} {f} (el, er, gl, gr, cl, cr, p) =
         let p′ : Put out to (blockBytes 2 a s i) f = subst (λ (l : List ℕ). Put out to l f) parts-are p in
         let l : length (blockBytes 2 a s i) ≡ a = length-stereo a s i (w .fine) in
         let k : (length s - at) / 2 ≡ length s / 2 - i * samplesPerBlock 2 a = omega (arith, w .frames) in
-        let el′ : r .left ≡ channelAfterBlock (t .left) (length s / 2 - i * samplesPerBlock 2 a) (blockOf 2 a s 0 i) =
+        let el′ : r .left ≡ channelAfterBlock (t .left) (length s / 2 - i * samplesPerBlock 2 a)
+        (blockOf 2 a s 0 i) =
         el ∙ ap (λ (m : ℕ). channelAfterBlock (t .left) m (taken s 2 (length s - 2) at (8 * groups + 1))) k
         ∙ ap (channelAfterBlock (t .left) (length s / 2 - i * samplesPerBlock 2 a)) left-is in
-        let er′ : r .right ≡ channelAfterBlock (t .right) (length s / 2 - i * samplesPerBlock 2 a) (blockOf 2 a s 1 i) =
+        let er′ : r .right ≡ channelAfterBlock (t .right) (length s / 2 - i * samplesPerBlock 2 a)
+        (blockOf 2 a s 1 i) =
         er ∙ ap (λ (m : ℕ). channelAfterBlock (t .right) m (taken s 2 (length s - 1) (at + 1) (8 * groups + 1))) k
         ∙ ap (channelAfterBlock (t .right) (length s / 2 - i * samplesPerBlock 2 a)) right-is in
         record {
@@ -321,6 +336,7 @@ module _ {s : List ℤ} {a n : ℕ} {out₀ : List ℕ} {groups : ℕ} {t : Chan
     unfolding values joined
     stereo-written =
         let k : n - i ≡ 0 = omega arith in
-        filled-all (subst (λ (m : ℕ). Filled (encodedBytes 2 a s) (joined (values (blockBytes 2 a s) i m)) to out out₀) k (w .filled))
+        filled-all (subst (λ (m : ℕ). Filled (encodedBytes 2 a s)
+        (joined (values (blockBytes 2 a s) i m)) to out out₀) k (w .filled))
 
-pub ruleset stereo-coding = (stereo-begins, stereo-frame, stereo-frame-fits, stereo-groups, stereo-room, stereo-next-room, left-fits, right-fits, left-good, right-good, stereo-next, left-chased, right-chased, stereo-written)
+pub ruleset stereo-coding = (stereo-begins, stereo-frame, stereo-frame-fits, stereo-room, left-fits, right-fits, stereo-next, left-chased, right-chased, stereo-written)

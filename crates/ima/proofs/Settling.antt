@@ -1,8 +1,8 @@
 -- The checks of encoding, and the number of blocks, in the words of the code. Assumes nothing.
 use mathlib.Core.Path.{_≡_, refl, sym, _∙_, subst}
 use mathlib.Core.Bool.{Bool, true, false, _&&_}
-use Prim.Native.Nat.{ℕ, zero, suc, _+_, _-_, _*_, _/_, _%_, _≤_, _<_}
-use native.Mathlib.Nat.{add-mul, one-mul, mul-one, mul-le-mul, mul-le-mul-left, div-le-self, div-lt-iff-lt-mul}
+use Prim.Native.Nat.{ℕ, _+_, _-_, _*_, _/_, _%_, _≤_, _<_}
+use native.Mathlib.Nat.{add-mul, one-mul, mul-one, mul-le-mul, mul-le-mul-left, mul-le-mul-right, div-le-self, div-lt-iff-lt-mul}
 use native.Mathlib.Omega.{arith}
 use lib.Dec.{T, leb, eqb, leb→le, eqb→eq}
 use mir.Syntax.{w64}
@@ -11,7 +11,6 @@ use mir.Facts.{and-yes}
 use borrow.Author.Tests.{not-true, not-false}
 use Rattle.little.proofs.Tests.{tests}
 use Rattle.units.specs.declared.Refusal.the-variants.{LengthOutOfRange, FormatWrong, NotWholeFrames, OutputTooSmall}
-use Rattle.units.specs.declared.Verdict.{Verdict}
 use Rattle.units.specs.declared.Verdict.the-variants.{Accepted, Refused}
 use Rattle.blocks.specs.Block.{samplesPerBlock}
 use Rattle.ima.specs.Encoding.{codable, blocksFor, encodeVerdict}
@@ -33,15 +32,18 @@ module _ (c a : ℕ) where
       codable-part k = simp tests
 
       module _ (k : a % (4 * c) ≡ 0) where
-        pub codable-short : a < 8 * c → false ≡ codable c a
+        -- an align below 8 times the channels, or below fewer times
+        pub codable-short : {n : ℕ} → a < n * c → n ≤ 8 → false ≡ codable c a
         unfolding codable
-        codable-short l = simp tests
+        codable-short {n} l o =
+            let m : a < 8 * c = omega (arith, mul-le-mul-right {m = n} {n = 8} c o) in
+            simp tests
 
         pub codable-long : 8 * c ≤ a → leb a 4096 ≡ codable c a
         unfolding codable
         codable-long l = simp tests
 
-pub ruleset judging = (codable-none, codable-many, codable-part, codable-short, codable-long, not-true, not-false)
+pub ruleset judging = (codable-none, codable-many, codable-part, codable-short, codable-long)
 
 -- ---- the number of blocks
 -- a quotient rounded up is no more than the number

@@ -20,6 +20,7 @@ writtenOf c a s =
       right = record { 0 = chasedCount c a s 1 };
     }
 
+-- the answer that a verdict gives
 abbrev pub answer : Verdict → Written → Encoded
 answer Verdict.Accepted w = Blocks w
 answer (Verdict.Refused r) w = Refused r

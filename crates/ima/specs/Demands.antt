@@ -26,15 +26,17 @@ frameOf c s ch f = getD s (c * f + ch) (pos 0)
 unfoldable pub blockIn : ℕ → List ℕ → ℕ → List ℕ
 blockIn a bytes k = take a (drop (k * a) bytes)
 
--- channel ch as decoding those blocks has it after frame f: its last sample is what is heard, its index says the next step
+-- channel ch as decoding has it after frame f: its last sample is what is heard, its index says the next step
 unfoldable pub heardAt : ℕ → ℕ → List ℕ → ℕ → ℕ → State
 heardAt c a bytes ch f =
-    getD (statesIn (channelPart c (blockIn a bytes (f / samplesPerBlock c a)) ch)) (f % samplesPerBlock c a) (record { last = pos 0; index = 0 })
+    getD (statesIn (channelPart c (blockIn a bytes (f / samplesPerBlock c a)) ch)) (f % samplesPerBlock c a)
+    (record { last = pos 0; index = 0 })
 
--- whether frame f is chased: it does not open a block, and is at least twice the current step away from its prediction, the sample
--- decoded before it
+-- whether frame f is chased: it does not open a block, and is at least twice the current step away from its
+-- prediction, the sample decoded before it
 unfoldable pub chasedAt : ℕ → ℕ → List ℤ → List ℕ → ℕ → ℕ → Bool
-chasedAt c a s bytes ch f = ltb 0 (f % samplesPerBlock c a) && isChased (heardAt c a bytes ch (f - 1)) (frameOf c s ch f)
+chasedAt c a s bytes ch f =
+    ltb 0 (f % samplesPerBlock c a) && isChased (heardAt c a bytes ch (f - 1)) (frameOf c s ch f)
 
 -- for each frame of the sound, whether it is chased
 unfoldable pub chasedFrames : ℕ → ℕ → List ℤ → List ℕ → ℕ → List Bool
@@ -43,8 +45,10 @@ chasedFrames c a s bytes ch = values (chasedAt c a s bytes ch) 0 (length s / c)
 -- bytes say a sound so well, and the counts of left and right are the numbers of its chased samples
 pub record Heard (s : List ℤ) (c a : ℕ) (bytes : List ℕ) (left right : ℕ) : Type 0 where
   -- in each channel a sample that opens a block is exact
-  pub opening : (ch f : ℕ) → ch < c → f < length s / c → f % samplesPerBlock c a ≡ 0 → heardAt c a bytes ch f .last ≡ frameOf c s ch f
-  -- a later one is within an eighth of the step plus 2 of the original, or chased: then strictly nearer than its prediction, not beyond
+  pub opening : (ch f : ℕ) → ch < c → f < length s / c → f % samplesPerBlock c a ≡ 0
+      → heardAt c a bytes ch f .last ≡ frameOf c s ch f
+  -- a later one is within an eighth of the step, rounded down, plus 2 of the original; or it is chased, and then
+  -- strictly nearer than its prediction was and not beyond the original
   pub later : (ch f : ℕ) → ch < c → f < length s / c → 0 < f % samplesPerBlock c a
       → Faithful (heardAt c a bytes ch (f - 1)) (frameOf c s ch f) (heardAt c a bytes ch f .last)
   -- no channel has 12 chased samples in succession
@@ -70,7 +74,8 @@ trackedPart i (x ∷ xs) = record { last = x; index = i } ∷ trackedAll (record
 unfoldable pub trackedAt : ℕ → ℕ → List ℤ → ℕ → ℕ → State
 trackedAt c a s ch f =
     let k : ℕ = f / samplesPerBlock c a in
-    getD (trackedPart (openIndex c a s ch k) (blockOf c a s ch k)) (f % samplesPerBlock c a) (record { last = pos 0; index = 0 })
+    getD (trackedPart (openIndex c a s ch k) (blockOf c a s ch k)) (f % samplesPerBlock c a)
+    (record { last = pos 0; index = 0 })
 
 unfoldable pub Tracked : Type 0
 Tracked =
@@ -79,7 +84,7 @@ Tracked =
 
 -- ---- the bounds are reached: 11 in succession, and an error of s/8 + 2
 
--- a sound, mono in blocks of 12 bytes
+-- two sounds, mono in blocks of 12 bytes
 unfoldable pub Reached : Type 0
 Reached =
     let rise : List ℤ = negsuc 32767 ∷ replicate 16 (pos 32767) in

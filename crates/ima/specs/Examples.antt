@@ -1,7 +1,7 @@
--- The examples of document 01 that are marked P, as one list under one statement. Assumes nothing.
+-- The examples of document 01 on IMA that are marked P, as one list under one statement. Assumes nothing.
 use Prim.Native.Nat.{ℕ}
 use mathlib.Core.Path.{_≡_}
-use mathlib.Core.Bool.{Bool, cond}
+use mathlib.Core.Bool.{cond}
 use mathlib.Core.List.{List, [], _∷_, _++_, map}
 use lib.IntN.{ℤ, pos, negsuc}
 use lib.ListN.{replicate}
@@ -30,7 +30,8 @@ written s = map pos (encodedBytes 1 12 s) ++ (pos (chasedCount 1 12 s 0) ∷ [])
 
 -- the number of a mono block whose header holds an index
 unfoldable pub headed : ℕ → List ℤ
-headed i = pos (verdictNumber (demand (headersFine 1 (0 ∷ 0 ∷ i ∷ 0 ∷ 0 ∷ 0 ∷ 0 ∷ 0 ∷ [])) BlockHeaderWrong Accepted)) ∷ []
+headed i =
+    pos (verdictNumber (demand (headersFine 1 (0 ∷ 0 ∷ i ∷ 0 ∷ 0 ∷ 0 ∷ 0 ∷ 0 ∷ [])) BlockHeaderWrong Accepted)) ∷ []
 
 unfoldable pub examples : List Example
 examples =

@@ -1,6 +1,5 @@
 // Encoding: a whole sound as IMA blocks, and how many samples of each channel are chased.
 ghost use mathlib.Core.Path.{_≡_};
-ghost use mathlib.Core.Bool.{true};
 ghost use Prim.Native.Nat.{_*_, _%_, _≤_};
 ghost use lib.ListN.{length};
 ghost use Rattle.little.specs.Writing.{front};

@@ -37,11 +37,6 @@ unfolding chasedOf after
 chased-append t [] ys = refl
 chased-append t (x ∷ xs) ys = ap (λ (l : List Bool). isChased t x ∷ l) (chased-append (tracked t x) xs ys)
 
-pub tracked-append : (t : State) (xs ys : List ℤ) → trackedAll t (xs ++ ys) ≡ trackedAll t xs ++ trackedAll (after t xs) ys
-unfolding trackedAll after
-tracked-append t [] ys = refl
-tracked-append t (x ∷ xs) ys = ap (λ (l : List State). tracked t x ∷ l) (tracked-append (tracked t x) xs ys)
-
 -- ---- one for each sample
 pub length-codes : (t : State) (xs : List ℤ) → length (codesOf t xs) ≡ length xs
 unfolding codesOf
@@ -52,11 +47,6 @@ pub length-chased : (t : State) (xs : List ℤ) → length (chasedOf t xs) ≡ l
 unfolding chasedOf
 length-chased t [] = refl
 length-chased t (x ∷ xs) = ap suc (length-chased (tracked t x) xs)
-
-pub length-tracked : (t : State) (xs : List ℤ) → length (trackedAll t xs) ≡ length xs
-unfolding trackedAll
-length-tracked t [] = refl
-length-tracked t (x ∷ xs) = ap suc (length-tracked (tracked t x) xs)
 
 -- ---- lists of 16-bit samples
 pub sixteen-none : Sixteen []
@@ -77,18 +67,6 @@ sixteen-first s = s .at 0
 
 pub sixteen-rest : {x : ℤ} {xs : List ℤ} → Sixteen (x ∷ xs) → Sixteen xs
 sixteen-rest s = record { at = λ i. s .at (suc i) }
-
-pub sixteen-append : {xs ys : List ℤ} → Sixteen xs → Sixteen ys → Sixteen (xs ++ ys)
-sixteen-append {xs = []} s r = r
-sixteen-append {xs = x ∷ xs} s r = sixteen-more (sixteen-first s) (sixteen-append (sixteen-rest s) r)
-
-pub sixteen-left : (xs ys : List ℤ) → Sixteen (xs ++ ys) → Sixteen xs
-sixteen-left [] ys s = sixteen-none
-sixteen-left (x ∷ xs) ys s = sixteen-more (sixteen-first s) (sixteen-left xs ys (sixteen-rest s))
-
-pub sixteen-right : (xs : List ℤ) {ys : List ℤ} → Sixteen (xs ++ ys) → Sixteen ys
-sixteen-right [] s = s
-sixteen-right (x ∷ xs) s = sixteen-right xs (sixteen-rest s)
 
 -- ---- the channel after samples, and the quality of each of them
 pub after-in-range : {t : State} (xs : List ℤ) → InRange t → InRange (after t xs)
