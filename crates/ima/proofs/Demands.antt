@@ -2,22 +2,23 @@
 use mathlib.Core.Path.{_≡_, refl, sym, ap, _∙_}
 use mathlib.Core.Bool.{Bool, true, false, cond, _&&_}
 use mathlib.Core.List.{List, [], _∷_}
-use Prim.Native.Nat.{ℕ, suc, _+_, _-_, _*_, _/_, _%_, _≤_, _<_}
+use Prim.Native.Nat.{ℕ, zero, suc, _+_, _-_, _*_, _/_, _%_, _≤_, _<_}
 use native.Mathlib.Nat.{div-add-mod', mod-lt, zero-add}
 use native.Mathlib.Omega.{arith}
-use lib.Dec.{ltb}
+use lib.Dec.{leb, ltb}
 use lib.IntN.{ℤ, pos}
-use lib.ListN.{length, take, getD}
+use lib.ListN.{length, take, getD, length-map, List·getD-map}
 use lib.Seq.{ext-getD, length-take-le, getD-take}
-use borrow.Author.Tests.{lt-ltb}
+use borrow.Author.Tests.{lt-ltb, le-leb}
 use Rattle.samples.proofs.Signed.{by-ltb}
-use Rattle.lists.specs.Turns.{values, joined}
-use Rattle.lists.proofs.Turns.{values-long, values-at, joined-long, joined-element}
+use Rattle.lists.specs.Turns.{values, joined, inTurn}
+use Rattle.lists.proofs.Turns.{Long, values-long, values-at, joined-long, joined-element, turn-element}
+use Rattle.lists.proofs.Laws.{every-all}
 use Rattle.steps.specs.declared.State.{State}
 use Rattle.steps.specs.Code.{isChased}
 use Rattle.steps.specs.Quality.{Sixteen, Faithful, within, atMost}
-use Rattle.steps.proofs.Machine.{sixteen-first, sixteen-rest, faithful-at, chased-at}
-use Rattle.blocks.specs.Block.{samplesPerBlock, channelPart, statesIn}
+use Rattle.steps.proofs.Machine.{length-tracked, sixteen-first, sixteen-rest, faithful-at, chased-at}
+use Rattle.blocks.specs.Block.{samplesPerBlock, channelPart, opened, heard, soundIn, statesIn, framesIn, headersFine}
 use Rattle.coder.specs.Part.{chasedPart, countOf}
 use Rattle.units.specs.declared.Verdict.{Verdict}
 use Rattle.units.specs.declared.Verdict.the-variants.{Accepted}
@@ -32,7 +33,7 @@ use Rattle.ima.specs.Demands.{frameOf, blockIn, heardAt, chasedAt, chase
 use Rattle.ima.proofs.Settling.{Codable}
 use Rattle.ima.proofs.Answers.{Settled, settled-says}
 use Rattle.ima.proofs.Blocks.{per-some, length-block, length-part}
-use Rattle.ima.proofs.Heard.{part-heard, per-is, part-back, block-back}
+use Rattle.ima.proofs.Heard.{index-back, part-heard, per-is, part-back, block-back}
 use Rattle.ima.proofs.Frames.{block-sixteen, block-frame, open-below, calm-take, blocks-calm, same-block, one-before, blocks-enough, block-among}
 
 abbrev silent : State
@@ -43,6 +44,11 @@ part-opens : (i : ℕ) (xs : List ℤ) → 1 ≤ length xs → getD (trackedPart
 unfolding trackedPart
 part-opens i [] g = absurd (omega arith)
 part-opens i (x ∷ xs) g = refl
+
+tracked-long : (i : ℕ) (xs : List ℤ) → length (trackedPart i xs) ≡ length xs
+unfolding trackedPart
+tracked-long i [] = refl
+tracked-long i (x ∷ xs) = ap suc (length-tracked (record { last = x; index = i }) xs)
 
 part-later : (i : ℕ) (xs : List ℤ) (j : ℕ) → Sixteen xs → i < 89 → suc j < length xs
     → Faithful (getD (trackedPart i xs) j silent) (getD xs (suc j) (pos 0))
@@ -187,6 +193,53 @@ module _ (c a : ℕ) (s : List ℤ) (ch : ℕ) (w : Codable c a) (z : Sixteen s)
       ∙ calm-take 11 11 (length s / c) (joined (values (chasedBlock c a s ch) 0 (blocksFor c a (length s))))
       (blocks-calm c a s ch z 0 (blocksFor c a (length s)) 11)
 
+-- ---- what the decoder takes and puts out
+module _ (c a : ℕ) (s : List ℤ) (w : Codable c a) (z : Sixteen s) (k : ℕ) (h : k < blocksFor c a (length s)) where
+  abbrev block : List ℕ
+  block = blockIn a (encodedBytes c a s) k
+
+  part-is : (ch : ℕ) → ch < c → channelPart c block ch ≡ partOf c a s k ch
+  part-is ch l = ap (λ (b : List ℕ). channelPart c b ch) (block-back w s k h) ∙ part-back w s k ch l
+
+  headers-fine : headersFine c block ≡ true
+  unfolding headersFine partOf
+  headers-fine =
+      every-all (λ ch. leb (opened (channelPart c block ch) .index) 88) 0 c
+      (λ ch i l.
+      let xs : List ℤ = blockOf c a s ch k in
+      let e : opened (channelPart c block ch) .index ≡ openIndex c a s ch k =
+      ap (λ (b : List ℕ). opened b .index) (part-is ch (omega arith))
+      ∙ index-back (openIndex c a s ch k) xs (block-sixteen c a s ch k z) (omega (arith, length-block c a s ch k, per-some c a)) in
+      le-leb (opened (channelPart c block ch) .index) 88 (omega (arith, open-below c a s ch z k)))
+
+  sound-long : (ch : ℕ) → ch < c → length (soundIn (channelPart c block ch)) ≡ samplesPerBlock c a
+  unfolding soundIn heard statesIn partOf
+  sound-long ch l =
+      let i : ℕ = openIndex c a s ch k in
+      let xs : List ℤ = blockOf c a s ch k in
+      length-map (statesIn (channelPart c block ch)) (λ t. t .last)
+      ∙ ap (λ (b : List ℕ). length (statesIn b)) (part-is ch l)
+      ∙ ap length (part-heard i (a / (4 * c) - 1) xs (block-sixteen c a s ch k z) (length-block c a s ch k ∙ per-is w))
+      ∙ tracked-long i xs
+      ∙ length-block c a s ch k
+
+  sounds-long : (i n : ℕ) → i + n ≤ c → Long (samplesPerBlock c a) (values (λ ch. soundIn (channelPart c block ch)) i n)
+  unfolding values
+  sounds-long i zero g = tt
+  sounds-long i (suc n) g = (sound-long i (omega arith), sounds-long (suc i) n (omega arith))
+
+  put-out : (j ch : ℕ) → j < samplesPerBlock c a → ch < c
+      → getD (framesIn c (samplesPerBlock c a) block) (c * j + ch) (pos 0) ≡ getD (statesIn (channelPart c block ch)) j silent .last
+  unfolding framesIn soundIn heard statesIn
+  put-out j ch g l =
+      let p : ℕ = samplesPerBlock c a in
+      let ls : List (List ℤ) = values (λ ch. soundIn (channelPart c block ch)) 0 c in
+      let n : length ls ≡ c = values-long (λ ch. soundIn (channelPart c block ch)) 0 c in
+      ap (λ (m : ℕ). getD (inTurn 1 p ls) (m * j + ch) (pos 0)) (sym n)
+      ∙ turn-element p ls j ch (pos 0) (sounds-long 0 c (omega arith)) g (omega arith)
+      ∙ ap (λ (l : List ℤ). getD l j (pos 0)) (values-at (λ ch. soundIn (channelPart c block ch)) 0 c ch [] l ∙ ap (λ (m : ℕ). soundIn (channelPart c block m)) (zero-add ch))
+      ∙ List·getD-map (λ t. t .last) (statesIn (channelPart c block ch)) j silent
+
 -- ---- the counts
 counted : (c a : ℕ) (s : List ℤ) (ch : ℕ) → Codable c a → Sixteen s → length s % c ≡ 0
     → chasedCount c a s ch ≡ cond (ltb ch c) (countOf (chasedFrames c a s (encodedBytes c a s) ch)) 0
@@ -214,11 +267,14 @@ accepted (Verdict.Refused r) e = let z : _≡_ {A = ℕ} 0 1 = cc in absurd (ome
 
 -- the whole of demand 3
 pub quality : Quality
-unfolding Quality encoding writtenOf
+unfolding Quality encoding writtenOf heardAt
 quality s c a room w z e =
     let v = accepted (encodeVerdict (length s) c a room) e in
     let t : Settled (length s) c a room = settled-says (length s) c a room (v .0) in
     record {
+      fine = λ f h. headers-fine c a s (t .fine) z (f / samplesPerBlock c a) (block-among c a (length s) f h);
+      sounded = λ ch f l h.
+          put-out c a s (t .fine) z (f / samplesPerBlock c a) (block-among c a (length s) f h) (f % samplesPerBlock c a) ch (mod-lt f (per-some c a)) l;
       opening = λ ch f l h g. opens-exact c a s ch (t .fine) z (t .whole) l f h g;
       later = λ ch f l h g. later-near c a s ch (t .fine) z (t .whole) l f h g;
       succession = λ ch l. search (in-succession c a s ch (t .fine) z (t .whole) l);

@@ -49,6 +49,12 @@ opened-back x i r f =
     ap (λ (n : ℕ). record { last = signedOf n; index = i }) (bytes-say 2 (bitsOf x) (fits-ofZ f .fits))
     ∙ ap (λ (z : ℤ). record { last = z; index = i }) (signed-bits f)
 
+pub index-back : (i : ℕ) (xs : List ℤ) → Sixteen xs → 1 ≤ length xs → opened (codedPart i xs) .index ≡ i
+unfolding codedPart
+index-back i [] s h = absurd (omega arith)
+index-back i (x ∷ xs) s h =
+    ap (λ (t : State). t .index) (opened-back x i (packed (codesOf (record { last = x; index = i }) xs)) (sixteen-first s))
+
 behind-head : (x : ℤ) (i : ℕ) (r : List ℕ) → drop 4 (headBytes x i ++ r) ≡ r
 unfolding headBytes sampleBytes bytesOf
 behind-head x i r = refl

@@ -11,7 +11,7 @@ use Rattle.steps.specs.declared.State.{State}
 use Rattle.steps.specs.Code.{stepAt, isChased}
 use Rattle.steps.specs.Machine.{trackedAll}
 use Rattle.steps.specs.Quality.{Sixteen, Faithful, atMost}
-use Rattle.blocks.specs.Block.{samplesPerBlock, channelPart, statesIn}
+use Rattle.blocks.specs.Block.{samplesPerBlock, channelPart, statesIn, framesIn, headersFine}
 use Rattle.coder.specs.Part.{countOf}
 use Rattle.ima.specs.declared.Written.{Written}
 use Rattle.ima.specs.declared.Encoded.the-variants.{Blocks}
@@ -44,6 +44,11 @@ chasedFrames c a s bytes ch = values (chasedAt c a s bytes ch) 0 (length s / c)
 
 -- bytes say a sound so well, and the counts of left and right are the numbers of its chased samples
 pub record Heard (s : List ℤ) (c a : ℕ) (bytes : List ℕ) (left right : ℕ) : Type 0 where
+  -- decoding takes every block, and puts out what is heard: one sample of each channel in turn
+  pub fine : (f : ℕ) → f < length s / c → headersFine c (blockIn a bytes (f / samplesPerBlock c a)) ≡ true
+  pub sounded : (ch f : ℕ) → ch < c → f < length s / c
+      → getD (framesIn c (samplesPerBlock c a) (blockIn a bytes (f / samplesPerBlock c a))) (c * (f % samplesPerBlock c a) + ch) (pos 0)
+      ≡ heardAt c a bytes ch f .last
   -- in each channel a sample that opens a block is exact
   pub opening : (ch f : ℕ) → ch < c → f < length s / c → f % samplesPerBlock c a ≡ 0
       → heardAt c a bytes ch f .last ≡ frameOf c s ch f

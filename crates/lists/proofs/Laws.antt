@@ -2,7 +2,7 @@
 use mathlib.Core.Path.{_≡_, refl, sym, ap, _∙_}
 use mathlib.Core.Bool.{Bool, true, false, not, cond, _&&_}
 use mathlib.Core.List.{List, []}
-use Prim.Native.Nat.{ℕ, suc, _+_, _-_, _≤_, _<_}
+use Prim.Native.Nat.{ℕ, zero, suc, _+_, _-_, _≤_, _<_}
 use native.Mathlib.Nat.{le-of-lt}
 use native.Mathlib.Numerals.{add-one}
 use native.Mathlib.Omega.{arith}
@@ -155,3 +155,10 @@ module _ {n : ℕ} {ys : List ℕ} where
 
 -- with the last law, a program that lets a number reach n is refused where it is wrong
 pub ruleset below = (below-begins, below-ends, below-fails, below-next, le-of-lt)
+
+-- ---- a test that holds at every place holds at all of them
+pub every-all : (test : ℕ → Bool) (i n : ℕ) → ((k : ℕ) → i ≤ k → k < i + n → test k ≡ true) → every test i n ≡ true
+unfolding every
+every-all test i zero f = refl
+every-all test i (suc n) f =
+    ap (λ (b : Bool). b && every test (suc i) n) (f i (omega arith) (omega arith)) ∙ every-all test (suc i) n (λ k h g. f k (omega arith) (omega arith))

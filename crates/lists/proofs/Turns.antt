@@ -252,3 +252,36 @@ module _ {A : Type 0} where
       ∙ sym (getD-take a (drop (k * a) (joined (values f 0 n))) j d (mod-lt i h))
       ∙ ap (λ (l : List A). getD l j d) (joined-at f a 0 n k e q)
       ∙ ap (λ (m : ℕ). getD (f m) j d) z
+
+  -- ---- one element of each list in turn: where an element stands
+  first-at : (n : ℕ) (ls : List (List A)) (ch : ℕ) (d : A) → Long (suc n) ls → ch < length ls
+      → getD (joined (map (take 1) ls)) ch d ≡ getD (getD ls ch []) 0 d
+  unfolding joined
+  first-at n [] ch d e h = absurd (omega arith)
+  first-at n ([] ∷ ls) ch d e h = absurd (omega (arith, e .0))
+  first-at n ((x ∷ l) ∷ ls) zero d e h = refl
+  first-at n ((x ∷ l) ∷ ls) (suc ch) d e h = first-at n ls ch d (e .1) (omega arith)
+
+  pub turn-element : (n : ℕ) (ls : List (List A)) (j ch : ℕ) (d : A) → Long n ls → j < n → ch < length ls
+      → getD (inTurn 1 n ls) (length ls * j + ch) d ≡ getD (getD ls ch []) j d
+  unfolding inTurn
+  turn-element zero ls j ch d e h g = absurd (omega arith)
+  turn-element (suc n) ls zero ch d e h g =
+      let k : length ls * 0 + ch ≡ ch = omega (arith, mul-zero (length ls)) in
+      let l = round-long 1 (suc n) ls e (omega arith) in
+      ap (λ (m : ℕ). getD (joined (map (take 1) ls) ++ inTurn 1 n (map (drop 1) ls)) m d) k
+      ∙ List·getD-append (joined (map (take 1) ls)) (inTurn 1 n (map (drop 1) ls)) d ch (omega arith)
+      ∙ first-at n ls ch d e g
+  turn-element (suc n) ls (suc j) ch d e h g =
+      let js : List A = joined (map (take 1) ls) in
+      let l : length js ≡ length ls = round-long 1 (suc n) ls e (omega arith) ∙ omega arith in
+      let k : length ls * suc j + ch ≡ length js + (length (map (drop 1) ls) * j + ch) =
+      omega (arith, mul-suc (length ls) j, ap (λ (m : ℕ). m * j) (drops-count 1 ls)) in
+      let e′ : Long (n + 1) ls = subst (λ (m : ℕ). Long m ls) (sym (add-one n)) e in
+      let a : 1 + j ≡ suc j = omega arith in
+      ap (λ (m : ℕ). getD (js ++ inTurn 1 n (map (drop 1) ls)) m d) k
+      ∙ getD-append-add js (inTurn 1 n (map (drop 1) ls)) (length (map (drop 1) ls) * j + ch) d
+      ∙ turn-element n (map (drop 1) ls) j ch d (drops-long 1 n ls e′) (omega arith) (omega (arith, drops-count 1 ls))
+      ∙ ap (λ (m : List A). getD m j d) (drops-at 1 ls ch g)
+      ∙ getD-drop 1 (getD ls ch []) j d
+      ∙ ap (λ (m : ℕ). getD (getD ls ch []) m d) a

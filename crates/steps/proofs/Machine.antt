@@ -48,6 +48,11 @@ unfolding chasedOf
 length-chased t [] = refl
 length-chased t (x ∷ xs) = ap suc (length-chased (tracked t x) xs)
 
+pub length-tracked : (t : State) (xs : List ℤ) → length (trackedAll t xs) ≡ length xs
+unfolding trackedAll
+length-tracked t [] = refl
+length-tracked t (x ∷ xs) = ap suc (length-tracked (tracked t x) xs)
+
 -- ---- lists of 16-bit samples
 pub sixteen-none : Sixteen []
 sixteen-none = record { at = λ i. none i }
