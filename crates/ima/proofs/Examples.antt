@@ -9,8 +9,8 @@ use Rattle.steps.specs.Machine.{run, codesOf, after, chasedOf}
 use Rattle.steps.specs.Quality.{within, atMost}
 use Rattle.blocks.specs.Block.{samplesPerBlock, channelPart, opened, nibbles, statesIn, headersFine}
 use Rattle.coder.specs.Part.{taken, packed, headBytes, codedPart, closingIndex, chasedPart, countOf}
-use Rattle.ima.specs.Encoding.{blockOf, openIndex, partOf, chasedBlock, blockBytes, blocksFor, encodedBytes, chasedIn, chasedCount}
-use Rattle.ima.specs.Demands.{frameOf, blockIn, heardAt, chasedAt, chasedFrames, Reached}
+use Rattle.ima.specs.Encoding.{blockOf, openIndex, partOf, chasedBlock, blockBytes, blocksFor, encodedBytes, chasedIn, chasedCount, codable, encodeVerdict}
+use Rattle.ima.specs.Demands.{frameOf, blockIn, heardAt, chasedAt, chasedFrames, Reached, Limit}
 use Rattle.ima.specs.Examples.{coded, written, headed, examples, Worked}
 
 pub worked : Worked
@@ -20,3 +20,7 @@ worked = search
 pub reached : Reached
 unfolding Reached heardAt chasedAt chasedFrames frameOf blockIn atMost within run nibbles statesIn codeFor tracked isChased decoded codeOf bitsFor bitIf leftOf stepAt hasBit sizeOf signedBy difference indexFrom hold codesOf after channelPart opened picked sampleAt numberAt numberIn signedOf encodedBytes blockBytes partOf blocksFor samplesPerBlock blockOf openIndex taken packed headBytes codedPart closingIndex values joined inTurn sampleBytes bytesOf bitsOf
 reached = (refl, refl, refl)
+
+pub limit : Limit
+unfolding Limit encodeVerdict codable blocksFor samplesPerBlock
+limit = (refl, refl)

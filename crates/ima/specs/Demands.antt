@@ -13,9 +13,10 @@ use Rattle.steps.specs.Machine.{trackedAll}
 use Rattle.steps.specs.Quality.{Sixteen, Faithful, atMost}
 use Rattle.blocks.specs.Block.{samplesPerBlock, channelPart, statesIn, framesIn, headersFine}
 use Rattle.coder.specs.Part.{countOf}
+use Rattle.units.specs.Refusals.{verdictNumber}
 use Rattle.ima.specs.declared.Written.{Written}
 use Rattle.ima.specs.declared.Encoded.the-variants.{Blocks}
-use Rattle.ima.specs.Encoding.{blockOf, openIndex, blocksFor, encodedBytes, codable}
+use Rattle.ima.specs.Encoding.{blockOf, openIndex, blocksFor, encodedBytes, codable, encodeVerdict}
 use Rattle.ima.specs.Answer.{encoding, encodedNumber}
 
 -- frame f of channel ch of a sound s of c channels
@@ -108,3 +109,7 @@ Numbered =
     (cond (not (codable c a)) 9
     (cond (not (eqb (length s % c) 0)) 10
     (cond (not (leb (blocksFor c a (length s) * a) room)) 14 0)))
+
+-- 536,870,912 samples are taken, and get 14 where there is no room; one more is 1
+unfoldable pub Limit : Type 0
+Limit = (verdictNumber (encodeVerdict 536870912 1 12 0) ≡ 14) × (verdictNumber (encodeVerdict 536870913 1 12 0) ≡ 1)

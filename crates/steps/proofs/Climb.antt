@@ -5,15 +5,14 @@ use mathlib.Core.List.{List, [], _∷_}
 use Prim.Native.Nat.{ℕ, zero, suc, _+_, _*_, _≤_}
 use native.Mathlib.Omega.{arith}
 use lib.Dec.{T}
-use lib.IntN.{ℤ, pos, negsuc, natAbs, _-ℤ_}
+use lib.IntN.{ℤ, natAbs, _-ℤ_}
 use mir.Syntax.{w16}
 use mir.Val.{SFits}
 use borrow.Author.Tests.{lt-leb}
-use Rattle.samples.specs.Sound.{hold}
 use Rattle.samples.proofs.Signed.{is-gap, is-abs}
 use Rattle.samples.proofs.Laws.{raised}
 use Rattle.steps.specs.declared.State.{State}
-use Rattle.steps.specs.Code.{stepAt, hasBit, sizeOf, signedBy, difference, indexFrom, decoded, bitIf, leftOf, bitsFor, codeOf, codeFor, tracked, isChased}
+use Rattle.steps.specs.Code.{stepAt, tracked, isChased}
 use Rattle.steps.specs.Machine.{chasedOf}
 use Rattle.steps.specs.Quality.{InRange, Sixteen, within, atMost}
 use Rattle.steps.proofs.Table.{step-range}
@@ -82,10 +81,3 @@ module _ (n : ℕ) (h : 88 ≤ 8 * n) where
 -- no more than eleven in succession
 pub eleven-at-most : {t : State} {xs : List ℤ} → InRange t → Sixteen xs → atMost 11 (chasedOf t xs) ≡ true
 eleven-at-most c s = at-most _ (omega arith) c s
-
--- eleven occur: from the lowest sample at index 0 to the highest
-pub eleven-reached : let x : ℤ = pos 32767 in
-    let t : State = record { last = negsuc 32767; index = 0 } in
-    atMost 10 (chasedOf t (x ∷ x ∷ x ∷ x ∷ x ∷ x ∷ x ∷ x ∷ x ∷ x ∷ x ∷ x ∷ x ∷ x ∷ x ∷ x ∷ [])) ≡ false
-unfolding atMost within chasedOf tracked codeFor codeOf decoded difference signedBy sizeOf hasBit indexFrom bitsFor bitIf leftOf stepAt isChased hold
-eleven-reached = refl

@@ -1,5 +1,5 @@
 -- Demand 3 of one sample: how near it is decoded, by arithmetic over the eight ways to set the bits. Assumes nothing.
-use mathlib.Core.Path.{_≡_, refl, sym, _∙_, ap, subst}
+use mathlib.Core.Path.{_≡_, sym, _∙_, ap, subst}
 use mathlib.Core.Bool.{Bool, true, false, cond}
 use Prim.Native.Nat.{ℕ, _+_, _-_, _*_, _/_, _%_, _≤_, _<_, min}
 use native.Mathlib.Omega.{arith}
@@ -9,11 +9,10 @@ use lib.Signed.{ltZ}
 use mir.Syntax.{w16}
 use mir.Val.{SFits}
 use borrow.Author.Tests.{leb-true, leb-false}
-use Rattle.samples.specs.Sound.{hold}
 use Rattle.samples.proofs.Signed.{Is, by-leb, by-ltb, is-pos, is-neg, is-add, is-gap, is-abs, is-lt, is-le, le-is}
 use Rattle.samples.proofs.Laws.{Raised, raised, hold-is}
 use Rattle.steps.specs.declared.State.{State}
-use Rattle.steps.specs.Code.{stepAt, hasBit, sizeOf, signedBy, difference, indexFrom, decoded, bitIf, leftOf, bitsFor, codeOf, codeFor, tracked, isChased}
+use Rattle.steps.specs.Code.{stepAt, hasBit, sizeOf, signedBy, indexFrom, decoded, bitsFor, codeOf, codeFor, tracked, isChased}
 use Rattle.steps.specs.Quality.{InRange, Faithful}
 use Rattle.steps.proofs.Table.{step-range}
 use Rattle.steps.proofs.Laws.{index-up}
@@ -197,9 +196,3 @@ module _ (t : State) (x : ℤ) (e : isChased t x ≡ true) where
   pub chased-index : tracked t x .index ≡ min (t .index + 8) 88
   unfolding tracked decoded
   chased-index = ap (indexFrom (t .index)) chased-code ∙ omega (arith, index-up (t .index) 7 (omega arith) (omega arith))
-
--- an error of an eighth of the step and 2 occurs: at step 23 the sample 22 after 0 is decoded as 18
-pub bound-reached : let t : State = record { last = pos 0; index = 12 } in
-    (isChased t (pos 22) ≡ false) × (natAbs (tracked t (pos 22) .last -ℤ pos 22) ≡ stepAt 12 / 8 + 2)
-unfolding tracked codeFor codeOf decoded difference signedBy sizeOf hasBit indexFrom bitsFor bitIf leftOf stepAt isChased hold
-bound-reached = (refl, refl)
