@@ -12,11 +12,11 @@ use mir.Val.{Fits, SFits}
 use mir.Facts.{toZ-ofZ}
 use Rattle.little.specs.Writing.{Put}
 use Rattle.little.proofs.Filling.{Filled, drop-next, two-stores, four-stores, filled-none, filled-store, filled-piece, filled-put}
+use Rattle.lists.specs.States.{through}
 use Rattle.lists.specs.Turns.{joined, inTurn}
 use Rattle.samples.proofs.Signed.{back}
 use Rattle.steps.specs.declared.State.{State}
 use Rattle.steps.specs.Code.{decoded}
-use Rattle.steps.specs.Machine.{run}
 use Rattle.blocks.specs.Block.{channelPart, nibbles, heard}
 use Rattle.blocks.proofs.Parts.{codes-long, code-at}
 
@@ -38,7 +38,7 @@ high-is t byte e f = sym (f ∙ ap (λ (u : State). decoded u (byte / 16)) e)
 heard-next : (t : State) (s : List ℕ) (i : ℕ) → i < length s
     → heard t (drop i s)
     ≡ lowOf t (getD s i 0) .last ∷ highOf t (getD s i 0) .last ∷ heard (highOf t (getD s i 0)) (drop (i + 1) s)
-unfolding heard run nibbles
+unfolding heard through nibbles
 heard-next t s i h = ap (heard t) (drop-next s i 0 h)
 
 -- ---- one channel: n frames are left, from byte i of s on

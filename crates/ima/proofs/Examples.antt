@@ -5,7 +5,8 @@ use Rattle.samples.specs.Sound.{hold, signedOf, bitsOf, sampleAt, sampleBytes}
 use Rattle.lists.specs.Every.{every}
 use Rattle.lists.specs.Turns.{values, joined, inTurn, picked}
 use Rattle.steps.specs.Code.{stepAt, hasBit, sizeOf, signedBy, difference, indexFrom, decoded, bitIf, leftOf, bitsFor, codeOf, codeFor, tracked, isChased}
-use Rattle.steps.specs.Machine.{run, codesOf, after, chasedOf}
+use Rattle.lists.specs.States.{through}
+use Rattle.steps.specs.Machine.{codesOf, after, chasedOf}
 use Rattle.steps.specs.Quality.{within, atMost}
 use Rattle.blocks.specs.Block.{samplesPerBlock, channelPart, opened, nibbles, statesIn, headersFine}
 use Rattle.coder.specs.Part.{taken, packed, headBytes, codedPart, closingIndex, chasedPart, countOf}
@@ -18,7 +19,7 @@ unfolding Worked examples coded written headed codeFor tracked isChased decoded 
 worked = search
 
 pub reached : Reached
-unfolding Reached heardAt chasedAt chasedFrames frameOf blockIn atMost within run nibbles statesIn codeFor tracked isChased decoded codeOf bitsFor bitIf leftOf stepAt hasBit sizeOf signedBy difference indexFrom hold codesOf after channelPart opened picked sampleAt numberAt numberIn signedOf encodedBytes blockBytes partOf blocksFor samplesPerBlock blockOf openIndex taken packed headBytes codedPart closingIndex values joined inTurn sampleBytes bytesOf bitsOf
+unfolding Reached heardAt chasedAt chasedFrames frameOf blockIn atMost within through nibbles statesIn codeFor tracked isChased decoded codeOf bitsFor bitIf leftOf stepAt hasBit sizeOf signedBy difference indexFrom hold codesOf after channelPart opened picked sampleAt numberAt numberIn signedOf encodedBytes blockBytes partOf blocksFor samplesPerBlock blockOf openIndex taken packed headBytes codedPart closingIndex values joined inTurn sampleBytes bytesOf bitsOf
 reached = (refl, refl, refl)
 
 pub limit : Limit

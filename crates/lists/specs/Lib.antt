@@ -1,3 +1,4 @@
 pub mod Among
 pub mod Every
+pub mod States
 pub mod Turns

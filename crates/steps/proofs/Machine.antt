@@ -10,6 +10,7 @@ use mir.Syntax.{w16}
 use mir.Val.{SFits}
 use Rattle.steps.specs.declared.State.{State}
 use Rattle.steps.specs.Code.{codeFor, tracked, isChased}
+use Rattle.lists.specs.States.{through}
 use Rattle.steps.specs.Machine.{run, codesOf, after, chasedOf, trackedAll}
 use Rattle.steps.specs.Quality.{InRange, Sixteen, Faithful}
 use Rattle.steps.proofs.Coding.{tracked-in-range}
@@ -17,7 +18,7 @@ use Rattle.steps.proofs.Quality.{faithful}
 
 -- ---- decoding the codes of samples goes through the very states of encoding them
 pub run-tracks : (t : State) (xs : List ℤ) → run t (codesOf t xs) ≡ trackedAll t xs
-unfolding run codesOf trackedAll tracked
+unfolding through codesOf trackedAll tracked
 run-tracks t [] = refl
 run-tracks t (x ∷ xs) = ap (λ (l : List State). tracked t x ∷ l) (run-tracks (tracked t x) xs)
 

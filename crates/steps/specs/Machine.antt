@@ -3,13 +3,13 @@ use Prim.Native.Nat.{ℕ}
 use mathlib.Core.Bool.{Bool}
 use mathlib.Core.List.{List, [], _∷_}
 use lib.IntN.{ℤ}
+use Rattle.lists.specs.States.{through}
 use Rattle.steps.specs.declared.State.{State}
 use Rattle.steps.specs.Code.{decoded, codeFor, tracked, isChased}
 
 -- the states that codes lead through, one after each
-unfoldable pub run : State → List ℕ → List State
-run t [] = []
-run t (k ∷ ks) = decoded t k ∷ run (decoded t k) ks
+abbrev pub run : State → List ℕ → List State
+run t ks = through decoded t ks
 
 -- the codes of samples
 unfoldable pub codesOf : State → List ℤ → List ℕ
