@@ -16,6 +16,7 @@ use Rattle.units.specs.declared.Refusal.the-variants.{LengthOutOfRange, FormatW
 use Rattle.units.specs.declared.Verdict.{Verdict}
 use Rattle.units.specs.declared.Verdict.the-variants.{Accepted, Refused}
 use Rattle.units.specs.Refusals.{demand}
+use Rattle.units.proofs.Laws.{demand-met}
 use Rattle.ima.specs.declared.Written.{Written}
 use Rattle.ima.specs.Encoding.{codable, blocksFor, blockBytes, encodedBytes, chasedCount, encodeVerdict}
 use Rattle.ima.specs.Answer.{writtenOf, answer, encoding}
@@ -29,20 +30,16 @@ pub record Settled (n c a room : ℕ) : Type 0 where
   pub whole : n % c ≡ 0
   pub fits : blocksFor c a n * a ≤ room
 
-met : (b : Bool) (r : Refusal) (v : Verdict) → demand b r v ≡ Accepted → (b ≡ true) × (v ≡ Accepted)
-met true r v e = (refl, e)
-met false r v e = let z : _≡_ {A = ℕ} 0 1 = cc in absurd (omega arith)
-
 pub settled-says : (n c a room : ℕ) → encodeVerdict n c a room ≡ Accepted → Settled n c a room
 unfolding encodeVerdict
 settled-says n c a room e =
     let x : Verdict = demand (leb (blocksFor c a n * a) room) OutputTooSmall Accepted in
     let y : Verdict = demand (eqb (n % c) 0) NotWholeFrames x in
     let z : Verdict = demand (codable c a) FormatWrong y in
-    let p = met (leb n 536870912) LengthOutOfRange z e in
-    let q = met (codable c a) FormatWrong y (p .1) in
-    let r = met (eqb (n % c) 0) NotWholeFrames x (q .1) in
-    let s = met (leb (blocksFor c a n * a) room) OutputTooSmall Accepted (r .1) in
+    let p = demand-met (leb n 536870912) LengthOutOfRange z e in
+    let q = demand-met (codable c a) FormatWrong y (p .1) in
+    let r = demand-met (eqb (n % c) 0) NotWholeFrames x (q .1) in
+    let s = demand-met (leb (blocksFor c a n * a) room) OutputTooSmall Accepted (r .1) in
     record {
       small = leb→le n 536870912 (subst T (sym (p .0)) tt);
       fine = codable-says c a (q .0);

@@ -6,7 +6,7 @@ use native.Mathlib.Omega.{arith}
 use native.Mathlib.Nat.{mul-zero, zero-mul, mul-suc, suc-mul, add-zero, zero-add, le-trans, mod-lt, div-add-mod', div-lt-iff-lt-mul}
 use native.Mathlib.Numerals.{add-one}
 use lib.ListN.{length, take, drop, getD, length-append, length-take, length-drop, take-append-drop, List·getD-append}
-use lib.Seq.{take-at, drop-at, drop-drop, length-take-le, take-append-le, take-append-seam, drop-append-add, take-append-add, take-nil, drop-nil, getD-take, getD-drop, getD-append-add}
+use lib.Seq.{take-at, drop-at, drop-cons, drop-drop, length-take-le, take-append-le, take-append-seam, drop-append-add, take-append-add, take-nil, drop-nil, getD-take, getD-drop, getD-append-add}
 use Rattle.lists.specs.Turns.{values, joined, inTurn, picked}
 
 -- ---- all lists have m elements
@@ -285,3 +285,38 @@ module _ {A : Type 0} where
       ∙ ap (λ (m : List A). getD m j d) (drops-at 1 ls ch g)
       ∙ getD-drop 1 (getD ls ch []) j d
       ∙ ap (λ (m : ℕ). getD (getD ls ch []) m d) a
+
+  -- ---- one element at a time: where an element of what is picked stands, how many there are, and all of a list
+  picked-next : (stride : ℕ) (s : List A) (at n : ℕ) (d : A) → at < length s
+      → picked 1 stride s at (suc n) ≡ getD s at d ∷ picked 1 stride s (at + stride) n
+  unfolding picked
+  picked-next stride s at n d h = ap (λ (l : List A). take 1 l ++ picked 1 stride s (at + stride) n) (drop-cons s at d h)
+
+  pub picked-one-at : (stride : ℕ) (s : List A) (at n j : ℕ) (d : A) → at + stride * n + 1 ≤ length s + stride → j < n
+      → getD (picked 1 stride s at n) j d ≡ getD s (at + stride * j) d
+  picked-one-at stride s at zero j d h g = absurd (omega arith)
+  picked-one-at stride s at (suc n) zero d h g =
+      let e : at ≡ at + stride * 0 = omega (arith, mul-zero stride) in
+      ap (λ (l : List A). getD l 0 d) (picked-next stride s at n d (omega (arith, mul-suc stride n))) ∙ ap (λ (m : ℕ). getD s m d) e
+  picked-one-at stride s at (suc n) (suc j) d h g =
+      let e : at + stride + stride * j ≡ at + stride * suc j = omega (arith, mul-suc stride j) in
+      ap (λ (l : List A). getD l (suc j) d) (picked-next stride s at n d (omega (arith, mul-suc stride n)))
+      ∙ picked-one-at stride s (at + stride) n j d (omega (arith, mul-suc stride n)) (omega arith)
+      ∙ ap (λ (m : ℕ). getD s m d) e
+
+  pub picked-one-long : (stride : ℕ) (s : List A) (at n : ℕ) → at + stride * n + 1 ≤ length s + stride
+      → length (picked 1 stride s at n) ≡ n
+  unfolding picked
+  picked-one-long stride s at zero h = refl
+  picked-one-long stride s at (suc n) h =
+      length-append (take 1 (drop at s)) (picked 1 stride s (at + stride) n)
+      ∙ omega (
+        arith,
+        length-take-le 1 (drop at s) (omega (arith, length-drop at s, mul-suc stride n)),
+        picked-one-long stride s (at + stride) n (omega (arith, mul-suc stride n)),
+      )
+
+  pub picked-all : (s : List A) (n : ℕ) → n ≡ length s → picked 1 1 s 0 n ≡ s
+  picked-all s n e =
+      let l : length s ≡ 1 * n = omega arith in
+      ap (λ (r : List A). picked 1 1 r 0 n) (sym (turn-one 1 n s l)) ∙ picked-turn 1 n (s ∷ []) 0 (l, tt) (omega arith)

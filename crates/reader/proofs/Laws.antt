@@ -94,14 +94,17 @@ module _ (s : List ℕ) {w : Walked} (e : w ≡ directoryOf s) where
   unfolding reading
   spot-stopped f = spot-by (ap (λ (c : Content). readingOf c .verdict) (content-by f)) f
 
-  module _ {d : Directory} (f : w ≡ Whole d) {x : Reading} (g : x ≡ readingOf (contentAt s d)) where
-    told : {v : Verdict} → x .verdict ≡ v → reading s .verdict ≡ v
-    told h = sym (ap (λ (y : Reading). y .verdict) (read-whole f g)) ∙ h
+  pub spot-whole : {d : Directory} {spot : Spot} → w ≡ Whole d → spot ≡ spotBy (readingOf (contentAt s d) .verdict) (Whole d)
+      → spot ≡ soundSpot s
+  unfolding reading
+  spot-whole f g = g ∙ spot-by (ap (λ (c : Content). readingOf c .verdict) (content-by f)) f
 
-    pub spot-refused : {r : Refusal} → x .verdict ≡ Refused r → Missing ≡ soundSpot s
-    spot-refused h = spot-by (told h) f
+-- a directory's sound stands where it says, if its chunks are taken
+module _ (d : Directory) {x y : Reading} (e : x ≡ y) where
+  pub spot-refused : {r : Refusal} → x .verdict ≡ Refused r → Missing ≡ spotBy (y .verdict) (Whole d)
+  spot-refused h = ap (λ (v : Verdict). spotBy v (Whole d)) (sym h ∙ ap (λ (z : Reading). z .verdict) e)
 
-    pub spot-taken : x .verdict ≡ Accepted → d .sound ≡ soundSpot s
-    spot-taken h = spot-by (told h) f
+  pub spot-taken : x .verdict ≡ Accepted → d .sound ≡ spotBy (y .verdict) (Whole d)
+  spot-taken h = ap (λ (v : Verdict). spotBy v (Whole d)) (sym h ∙ ap (λ (z : Reading). z .verdict) e)
 
-pub ruleset whole = (whole-limit, read-stopped, read-whole, spot-stopped, spot-refused, spot-taken)
+pub ruleset whole = (whole-limit, read-stopped, read-whole, spot-stopped, spot-whole, spot-refused, spot-taken)

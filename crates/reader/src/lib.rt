@@ -16,7 +16,14 @@ ghost use lib.ListN.{length};
 ghost use Rattle.formats.specs.Frames.{needsFact};
 ghost use Rattle.riff.specs.Walk.{partOf};
 ghost use Rattle.rules.specs.Rules.{answer};
-ghost use Rattle.reader.specs.Content.{verdictAt, recordAt, contentAt, readingOf, reading, soundSpot, soundIn};
+ghost use Rattle.riff.specs.declared.Walked.the-variants.{Whole};
+ghost use Rattle.reader.specs.Content.{verdictAt, recordAt, contentAt, readingOf, reading, spotBy, soundSpot, soundIn};
+
+// What a file says, and where its sound data stand.
+pub struct Opened {
+    pub answer: Reading,
+    pub sound: Spot,
+}
 
 // The bytes of the `fact`; of an absent one, what is lent for it where it is needed and where not.
 fn fact_part<'a>(
@@ -70,31 +77,55 @@ fn read_chunks(file: &[u8], places: Directory) -> Reading
     read_parts(file, places)
 }
 
+// The same, and where the sound data stand; of a refused file, nowhere.
+fn open_chunks(file: &[u8], places: Directory) -> Opened
+    requires { ⌜ length (now file) ≤ 1073741824 ⌝ }
+    ensures { λ r. ⌜ (r .answer ≡ readingOf (contentAt (now (file .entry)) places))
+        × (r .sound ≡ spotBy (readingOf (contentAt (now (file .entry)) places) .verdict) (Whole places)) ⌝ }
+{
+    let answer = read_chunks(file, places);
+    let verdict = answer.verdict;
+    let Verdict::Accepted = verdict else {
+        return Opened {
+            answer: answer,
+            sound: Spot::Missing,
+        };
+    };
+    let sound = places.sound;
+    Opened {
+        answer: answer,
+        sound: sound,
+    }
+}
+
+// The record of a file, or the refusal, and where its sound data stand.
+pub fn open(file: &[u8]) -> Opened
+    ensures { λ r. ⌜ (r .answer ≡ reading (now (file .entry))) × (r .sound ≡ soundSpot (now (file .entry))) ⌝ }
+{
+    let walked = riff::chunks(file);
+    match walked {
+        Walked::Whole(places) => open_chunks(file, places),
+        Walked::Stopped(refusal) => Opened {
+            answer: rules::turned_away(refusal),
+            sound: Spot::Missing,
+        },
+    }
+}
+
 // The record of a file, or the refusal.
 pub fn read(file: &[u8]) -> Reading
     ensures { λ r. ⌜ r ≡ reading (now (file .entry)) ⌝ }
 {
-    let walked = riff::chunks(file);
-    match walked {
-        Walked::Whole(places) => read_chunks(file, places),
-        Walked::Stopped(refusal) => rules::turned_away(refusal),
-    }
+    let opened = open(file);
+    opened.answer
 }
 
 // Where the sound data of a file stand; of a refused file, nowhere.
 pub fn sound_spot(file: &[u8]) -> Spot
     ensures { λ r. ⌜ r ≡ soundSpot (now (file .entry)) ⌝ }
 {
-    let walked = riff::chunks(file);
-    let Walked::Whole(places) = walked else {
-        return Spot::Missing;
-    };
-    let answer = read_chunks(file, places);
-    let verdict = answer.verdict;
-    let Verdict::Accepted = verdict else {
-        return Spot::Missing;
-    };
-    places.sound
+    let opened = open(file);
+    opened.sound
 }
 
 // The sound data of a file, that very part of it; of a refused file, an empty part.
