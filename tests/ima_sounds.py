@@ -1,4 +1,4 @@
-"""Sounds to code and blocks to decode at the borders of document 01's rules for IMA, as `ima_vectors` takes them.
+"""Sounds to code at the borders of document 01's rules for IMA, as `ima_vectors` takes them.
 
 Each comes with the lines that `ima_vectors` must print, by the second coder; document 01's own examples are
 held to what it prints of them.
@@ -12,10 +12,6 @@ from second_reader import Refused, mixed
 LOW, HIGH = -32768, 32767
 
 
-def entry(label, kind, channels, align, place, room, data):
-    return struct.pack('<7H', len(label), kind, channels, align, place, room, len(data)) + label.encode() + data
-
-
 def coding(label, sound, channels=1, align=8, room=64):
     """A sound to code into so much room, where each byte was 170."""
     try:
@@ -25,24 +21,9 @@ def coding(label, sound, channels=1, align=8, room=64):
         blocks, answer = b'', f'refused {refusal.args[0]}'
     buffer = blocks + bytes([170] * (room - len(blocks)))
     starts = ''.join(f' {byte:02x}' for byte in buffer[:32])
-    made = entry(label, 0, channels, align, 0, room, struct.pack(f'<{len(sound)}h', *sound))
+    made = struct.pack('<5H', len(label), channels, align, room, 2 * len(sound)) + label.encode()
+    made += struct.pack(f'<{len(sound)}h', *sound)
     return made, [label, answer, f'mixed {mixed(buffer)} starts{starts}']
-
-
-def decoding(label, block, channels=1, frames=None, place=0):
-    """A block to decode to a place, whole or its first frames, where each sample was 7; two more stay so."""
-    frames = second_ima.frames_in(len(block), channels) if frames is None else frames
-    room = place + channels * frames + 2
-    try:
-        sound = [7] * place + second_ima.decode(block, channels)[:channels * frames] + [7, 7]
-        line = 'sound' + ''.join(f' {sample}' for sample in sound)
-    except Refused:
-        line = 'not decoded'
-    return entry(label, 1, channels, frames, place, room, block), [label, line]
-
-
-def header(sample, index, reserved=0):
-    return struct.pack('<hBB', sample, index, reserved)
 
 
 def examples():
@@ -55,11 +36,6 @@ def examples():
         (coding('-1 after 0', [0, -1]), 'bytes 8 left 0 right 0', 'starts 00 00 00 00 09'),
         (coding('506 samples of align 256', [5] * 506, 1, 256, 512), 'bytes 512 left 0 right 0'),
         (coding('505 samples of align 256', [5] * 505, 1, 256, 512), 'bytes 256 left 0 right 0'),
-        (decoding('code 7 after 0', header(0, 0) + b'\7\0\0\0', frames=2), 'sound 0 11 7 7'),
-        (decoding('code 9 after 0', header(0, 0) + b'\11\0\0\0', frames=2), 'sound 0 -1 7 7'),
-        (decoding('index 88', header(100, 88) + bytes(4), frames=1), 'sound 100 7 7'),
-        (decoding('index 89', header(100, 89) + bytes(4), frames=1), 'not decoded'),
-        (decoding('the worked block decoded', bytes.fromhex(block)), 'sound -32768 -32757 '),
     ]
     for (made, lines), *words in stored:
         for word in words:
@@ -114,34 +90,8 @@ def refused():
             yield coding(f'{blocks} x {align} in {room} bytes', [9] * channels * frames, channels, align, room)
 
 
-def blocks():
-    """Headers, all codes, every step, and blocks cut short."""
-    codes, others = bytes.fromhex('1032547698badcfe'), bytes.fromhex('0818283848588898')
-    two = codes[:4] + others[:4] + codes[4:] + others[4:]
-    for sample, index in ((0, 0), (-1, 0), (1000, 44), (LOW, 88), (HIGH, 88), (0, 87)):
-        yield decoding(f'all codes from {sample} at index {index}', header(sample, index) + codes)
-    yield decoding('all codes downward first', header(0, 30) + codes[::-1])
-    for index in range(89):
-        yield decoding(f'step {index}', header(LOW, index) + b'\7\0\0\0', frames=2)
-    yield decoding('index 0 goes no lower', header(0, 0) + bytes(8))
-    yield decoding('index 88 goes no higher', header(LOW, 84) + bytes.fromhex('77f7ff7f07080000'))
-    yield decoding('a reserved byte that is not 0', header(5, 3, 255) + codes)
-    yield decoding('reserved bytes that are not 0', header(5, 3, 1) + header(6, 4, 128) + two, 2)
-    for index in (127, 128, 255):
-        yield decoding(f'index {index}', header(0, index) + codes)
-    for first in (0, 88, 89):
-        for second in (0, 88, 89):
-            yield decoding(f'indices {first} and {second}', header(10, first) + header(-10, second) + two, 2)
-    yield decoding('89 where the second index of stereo stands', header(0, 0) + bytes([1, 2, 89, 3]))
-    yield decoding('a header alone', header(-7, 88))
-    yield decoding('two headers alone', header(-7, 88) + header(7, 0), 2)
-    for frames in (1, 2, 3, 8, 9, 10, 16, 17):
-        yield decoding(f'{frames} frames of 17', header(300, 20) + codes, 1, frames, 3)
-        yield decoding(f'{frames} frames of 17, two channels', header(300, 20) + header(-300, 9) + two, 2, frames, 3)
-
-
 def all_vectors():
-    return [*examples(), *sounds(), *refused(), *blocks()]
+    return [*examples(), *sounds(), *refused()]
 
 
 def some_sound(chance, length):
@@ -164,19 +114,10 @@ def some_coding(chance, label):
     return coding(label, some_sound(chance, count * channels + chance.choice([0] * 20 + [1])), channels, align, room)
 
 
-def some_decoding(chance, label):
-    channels, words, most = chance.choice([1, 2]), chance.choice([0, 1, 2, 3, 8, 30]), chance.choice([88] * 9 + [99])
-    parts = [chance.randbytes(2) + bytes([chance.randint(0, most), chance.randrange(256)]) for _ in range(channels)]
-    block = b''.join(parts) + chance.randbytes(4 * channels * words)
-    return decoding(label, block, channels, chance.randint(1, 8 * words + 1), chance.randrange(4))
-
-
 def many(count, seed):
-    """The longest blocks, and so many more sounds and blocks, the same for the same seed."""
+    """The longest blocks, and so many more sounds, the same for the same seed."""
     chance = random.Random(seed)
     for channels in (1, 2):
         yield coding(f'the longest blocks of {channels}', some_sound(chance, 8186), channels, 4096, 8192)
-        long = header(0, 60) * channels + chance.randbytes(4096 - 4 * channels)
-        yield decoding(f'the longest block of {channels} decoded', long, channels)
     for place in range(count):
-        yield chance.choice([some_coding, some_coding, some_decoding])(chance, str(place))
+        yield some_coding(chance, str(place))

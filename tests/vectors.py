@@ -14,6 +14,8 @@ import ima_sounds
 import other_programs
 import second_ima
 import second_reader
+import second_sound
+import sound_files
 import wave_files
 from second_reader import mixed
 
@@ -42,6 +44,12 @@ REFUSALS = """\
 19 not a side
 20 no such block
 """
+
+# Files of sound_other/data that are refused, whole and by their first block.
+NOT_HEARD = {
+    # libsndfile divides the fact count of IMA by the channels: 757 for three blocks of 505 frames.
+    'sndfile-ima-stereo-refused.wav': 11,
+}
 
 
 def hexed(data):
@@ -104,39 +112,75 @@ def reader():
     return data, '\n'.join(lines) + '\n'
 
 
-def ima():
-    """The sounds and blocks of tests/ima_sounds.py."""
-    vectors = ima_sounds.all_vectors()
+def joined(vectors):
+    """The entries of a program's input one after the other, and the lines that it must print."""
     return b''.join(entry for entry, _ in vectors), ''.join(f'{line}\n' for _, lines in vectors for line in lines)
 
 
+def ima():
+    """The sounds of tests/ima_sounds.py."""
+    return joined(ima_sounds.all_vectors())
+
+
+def sound():
+    """The files of tests/sound_files.py."""
+    return joined(sound_files.all_vectors())
+
+
 def ima_other():
-    """libsndfile's blocks of each sound, and what sox hears in them; the chased samples by the second coder."""
+    """libsndfile's blocks of each sound; the chased samples by the second coder."""
     names, lines = [], []
     for path in sorted((CRATES / 'ima_other' / 'data').glob('*.wav')):
-        raw, heard = path.with_suffix('.raw').read_bytes(), path.with_suffix('.heard').read_bytes()
+        raw = path.with_suffix('.raw').read_bytes()
         found = second_reader.walk(path.read_bytes())
-        _, channels, _, _, align, frames = second_reader.layout(found[b'fmt '][1])
-        blocks, size = found[b'data'][1], 2 * channels * frames
+        _, channels, _, _, align, _ = second_reader.layout(found[b'fmt '][1])
+        blocks = found[b'data'][1]
         coded, left, right = second_ima.encode(struct.unpack(f'<{len(raw) // 2}h', raw), channels, align, len(blocks))
         if coded != blocks:
             raise ValueError(f'{path.name}: libsndfile and the second coder differ')
         names += [path.name, path.with_suffix('.raw').name]
         lines += [path.name, f'coded bytes {len(blocks)} mixed {mixed(blocks)}', f'chased left {left} right {right}']
-        lines += [f'decoded bytes 4096 mixed {mixed(heard[at:at + size].ljust(4096, bytes(1)))}'
-                  for at in range(0, len(heard), size)]
     if not names:
         raise ValueError('files are missing in ima_other/data')
     return b'', '\n'.join(lines) + '\n', names
 
 
+def heard_lines(file, heard):
+    """What must be printed of a file by what another program hears in it: the whole, and block by block."""
+    tag, channels, _, _, _, samples = second_reader.layout(second_reader.walk(file)[b'fmt '][1])
+    lines = [f'frames {len(heard) // (2 * channels)}', f'bytes {len(heard)} mixed {mixed(heard)}']
+    size = 2 * channels * samples
+    for part in [heard[at:at + size] for at in range(0, len(heard), size) if tag != 1]:
+        lines += [f'frames {samples}', f'bytes {len(part)} mixed {mixed(part)}']
+    return lines + ['refused 20']
+
+
+def sound_other():
+    """What ffmpeg and sox hear in each file; the second decoder must hear the same."""
+    names, lines = [], []
+    for path in sorted((CRATES / 'sound_other' / 'data').glob('*.wav')):
+        file, heard = path.read_bytes(), path.with_suffix('.heard')
+        names, lines = names + [path.name], lines + [path.name]
+        if path.name in NOT_HEARD:
+            lines += [f'refused {NOT_HEARD[path.name]}'] * 2
+            continue
+        _, decoded = second_sound.decode(file, 65536)
+        if struct.pack(f'<{len(decoded)}h', *decoded) != heard.read_bytes():
+            raise ValueError(f'{path.name}: the program that heard it and the second decoder differ')
+        lines += heard_lines(file, heard.read_bytes())
+    if not NOT_HEARD.keys() < set(names):
+        raise ValueError('files are missing in sound_other/data')
+    return b'', '\n'.join(lines) + '\n', names
+
+
 def programs():
     """For each program its standard input, its arguments and what it must print."""
-    made = {f'{make.__name__}_vectors': (*make(), None) for make in (units, little, samples, reader, ima)}
+    made = {f'{make.__name__}_vectors': (*make(), None) for make in (units, little, samples, reader, ima, sound)}
     made['wave_list'] = wave_files.example(), '\n'.join(wave_files.EXAMPLE) + '\n', None
     others = list(other_programs.expected())
     made['other_programs'] = b'', ''.join(f'{name}\n{text}' for name, text in others), [name for name, _ in others]
     made['ima_other'] = ima_other()
+    made['sound_other'] = sound_other()
     return made
 
 

@@ -16,6 +16,7 @@ use Rattle.little.specs.Numbers.{numberAt}
 use Rattle.little.proofs.Reading.{two-bytes}
 use Rattle.lists.specs.Every.{every}
 use Rattle.lists.specs.Turns.{picked}
+use Rattle.lists.proofs.Laws.{and-both}
 use Rattle.lists.proofs.Turns.{picked-turn, turn-one, picked-at, picked-long}
 use Rattle.samples.specs.Sound.{signedOf, sampleAt}
 use Rattle.steps.specs.declared.State.{State}
@@ -95,10 +96,6 @@ module _ (s : List ℕ) {t : State} where
 and-true : (b : Bool) → (b && true) ≡ b
 and-true true = refl
 and-true false = refl
-
-and-both : (a b : Bool) → (a && b) ≡ true → (a ≡ true) × (b ≡ true)
-and-both true b e = (refl, e)
-and-both false b e = (e, cc)
 
 pub headers-one : (s : List ℕ) → 4 ≤ length s → headersFine 1 s ≡ leb (getD s 2 0) 88
 unfolding headersFine every opened

@@ -1,7 +1,6 @@
 // For each two arguments, NAME.wav of another program and the sound NAME.raw that it was made of: codes
-// the sound as the format of NAME.wav says, and decodes each block of NAME.wav to 4,096 bytes of 16-bit PCM,
-// silence behind it; a block with more sound is left out. Prints how many bytes each of these gives and a
-// number mixed of them, and the chased samples. At most 65,536 bytes of a file are read.
+// the sound as the format of NAME.wav says. Prints how many bytes this gives and a number mixed of them, and
+// the chased samples. At most 65,536 bytes of a file are read.
 //
 // The chunks are taken as they stand: libsndfile writes a wrong fact count into stereo files.
 use ima::Encoded;
@@ -52,47 +51,11 @@ fn encode_raw(raw: &[u8], channels: u16, align: u16) {
     encode(raw, channels, align, &mut sound[..n], &mut out);
 }
 
-// Decodes a block to a lent sound, and puts that into lent bytes.
-fn decode(block: &[u8], channels: u16, frames: u16, sound: &mut [i16], raw: &mut [u8]) {
-    if !one_block::decode(block, channels, frames, sound, 0) {
-        return;
-    }
-    if raw.len() / 2 < sound.len() {
-        return;
-    }
-    samples::to_pcm16(sound, raw);
-    bytes_line(b"decoded", raw);
-}
-
-// Decodes each block.
-fn decode_all(blocks: &[u8], channels: u16, frames: u16, align: u16) {
-    let size = align as usize;
-    if size < 1 {
-        return;
-    }
-    let mut at = 0;
-    while at < blocks.len() {
-        let mut sound = [0i16; 2048];
-        let mut raw = [0u8; 4096];
-        decode(
-            riff::bytes_from(blocks, at, size),
-            channels,
-            frames,
-            &mut sound,
-            &mut raw,
-        );
-        at += size;
-    }
-}
-
-// Codes a sound as the format of a file says, and decodes the file's blocks.
-fn both(file: &[u8], places: Directory, raw: &[u8]) {
-    let format_spot = places.format;
-    let sound_spot = places.sound;
-    let format = formats::format_of(riff::part(file, format_spot, b""));
+// Codes a sound as the format of a file says.
+fn encode_as(file: &[u8], places: Directory, raw: &[u8]) {
+    let spot = places.format;
+    let format = formats::format_of(riff::part(file, spot, b""));
     encode_raw(raw, format.channels, format.align);
-    let blocks = riff::part(file, sound_spot, b"");
-    decode_all(blocks, format.channels, format.samples, format.align);
 }
 
 // Reads the file of a name to a lent buffer, and answers how much of it there is.
@@ -117,7 +80,7 @@ fn pair(wave: &[u8], raw: &[u8]) {
     let mut sound = [0u8; 65536];
     let m = read_file(raw, &mut sound);
     match riff::chunks(bytes) {
-        Walked::Whole(places) => both(bytes, places, riff::bytes_from(&sound, 0, m)),
+        Walked::Whole(places) => encode_as(bytes, places, riff::bytes_from(&sound, 0, m)),
         Walked::Stopped(refusal) => listing::refused(refusal),
     }
 }

@@ -1,10 +1,9 @@
-// Codes each sound and decodes each block on standard input, under its label. An entry of the input is
-// seven numbers of two bytes, the label and the data; all in 65,536 bytes. The numbers are: the length of
-// the label; 0 for a sound of 16-bit PCM, 1 for a block; the channels; align, or how many frames to
-// decode; the place to decode to; the room, in bytes or in samples, at most 16,384; the length of the data.
+// Codes each sound on standard input, under its label. An entry of the input is five numbers of two bytes,
+// the label and the sound, as 16-bit PCM; all in 65,536 bytes. The numbers are: the length of the label; the
+// channels; align; the room in bytes, at most 16,384; the length of the sound.
 //
-// Of a sound it prints the answer, a number mixed of the lent buffer and the buffer's first 32 bytes; of a
-// block the lent sound, or that it was not decoded. Before that each byte is 170, each sample 7.
+// It prints the answer, a number mixed of the lent buffer and the buffer's first 32 bytes. Before that each
+// byte is 170.
 use ima::Encoded;
 use ima::Written;
 use libc::STDIN_FILENO;
@@ -65,47 +64,21 @@ fn encode_in(data: &[u8], channels: u16, align: u16, room: usize) {
     encode(data, channels, align, &mut sound[..n], &mut out[..room]);
 }
 
-// Decodes frames of a block to a place of a lent sound.
-fn decode(block: &[u8], channels: u16, frames: u16, place: u16, out: &mut [i16]) {
-    if !one_block::decode(block, channels, frames, out, place) {
-        show::word(b"not decoded\n");
-        return;
-    }
-    show::word(b"sound");
-    show::sound(out);
-    show::line();
-}
-
-// Decodes frames of a block into so many samples.
-fn decode_in(block: &[u8], channels: u16, frames: u16, place: u16, room: usize) {
-    if 16384 < room {
-        return;
-    }
-    let mut out = [7i16; 16384];
-    decode(block, channels, frames, place, &mut out[..room]);
-}
-
 // Works on the entry at a place, and answers how long it is.
 fn entry(input: &[u8], at: usize) -> usize
     requires { ⌜ at < 65536 ⌝ }
-    ensures { λ r. ⌜ (1 ≤ r) × (r ≤ 131084) ⌝ }
+    ensures { λ r. ⌜ (1 ≤ r) × (r ≤ 131080) ⌝ }
 {
     let label = little::u16_or_zero(input, at) as usize;
-    let kind = little::u16_or_zero(input, at + 2);
-    let channels = little::u16_or_zero(input, at + 4);
-    let align = little::u16_or_zero(input, at + 6);
-    let place = little::u16_or_zero(input, at + 8);
-    let room = little::u16_or_zero(input, at + 10) as usize;
-    let size = little::u16_or_zero(input, at + 12) as usize;
-    let data = riff::bytes_from(input, at + 14 + label, size);
-    show::word(riff::bytes_from(input, at + 14, label));
+    let channels = little::u16_or_zero(input, at + 2);
+    let align = little::u16_or_zero(input, at + 4);
+    let room = little::u16_or_zero(input, at + 6) as usize;
+    let size = little::u16_or_zero(input, at + 8) as usize;
+    show::word(riff::bytes_from(input, at + 10, label));
     show::line();
-    if kind == 0 {
-        encode_in(data, channels, align, room);
-    } else {
-        decode_in(data, channels, align, place, room);
-    }
-    14 + label + size
+    let data = riff::bytes_from(input, at + 10 + label, size);
+    encode_in(data, channels, align, room);
+    10 + label + size
 }
 
 // Works on every entry of the input.

@@ -9,7 +9,7 @@ use native.Mathlib.Omega.{arith}
 use lib.Dec.{eqb, ltb}
 use lib.ListN.{length, take, drop, getD, drop-of-length-le, length-drop}
 use lib.Seq.{drop-cons, take-all}
-use borrow.Author.Tests.{eq-eqb, ne-eqb, lt-ltb, le-ltb, ltb-true, ltb-false}
+use borrow.Author.Tests.{eq-eqb, ne-eqb, lt-ltb, le-ltb, ltb-true, ltb-false, eqb-true, eqb-false}
 use Rattle.lists.specs.Among.{indexIn, has, distinct}
 use Rattle.lists.specs.Every.{every, allBelow}
 
@@ -162,3 +162,22 @@ unfolding every
 every-all test i zero f = refl
 every-all test i (suc n) f =
     ap (λ (b : Bool). b && every test (suc i) n) (f i (omega arith) (omega arith)) ∙ every-all test (suc i) n (λ k h g. f k (omega arith) (omega arith))
+
+-- both of two that hold together
+pub and-both : (a b : Bool) → (a && b) ≡ true → (a ≡ true) × (b ≡ true)
+and-both true b e = (refl, e)
+and-both false b e = (e, cc)
+
+-- and where it holds at all of them, it holds at each
+pub every-at : (test : ℕ → Bool) (i n k : ℕ) → every test i n ≡ true → i ≤ k → k < i + n → test k ≡ true
+unfolding every
+every-at test i zero k e h g = absurd (omega arith)
+every-at test i (suc n) k e h g = at (eqb k i) refl (every-at test (suc i) n k)
+  where
+    both : (test i ≡ true) × (every test (suc i) n ≡ true)
+    both = and-both (test i) (every test (suc i) n) e
+
+    at : (q : Bool) → eqb k i ≡ q → (every test (suc i) n ≡ true → suc i ≤ k → k < suc i + n → test k ≡ true)
+        → test k ≡ true
+    at true t later = ap test (eqb-true k i t) ∙ both .0
+    at false t later = let d = eqb-false k i t in later (both .1) (omega arith) (omega arith)

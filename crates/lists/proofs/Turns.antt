@@ -6,7 +6,7 @@ use native.Mathlib.Omega.{arith}
 use native.Mathlib.Nat.{mul-zero, zero-mul, mul-suc, suc-mul, add-zero, zero-add, le-trans, mod-lt, div-add-mod', div-lt-iff-lt-mul}
 use native.Mathlib.Numerals.{add-one}
 use lib.ListN.{length, take, drop, getD, length-append, length-take, length-drop, take-append-drop, List·getD-append}
-use lib.Seq.{take-at, drop-at, drop-cons, drop-drop, length-take-le, take-append-le, take-append-seam, drop-append-add, take-append-add, take-nil, drop-nil, getD-take, getD-drop, getD-append-add}
+use lib.Seq.{take-at, drop-at, drop-cons, drop-drop, length-take-le, take-append-add, getD-take, getD-drop, getD-append-add}
 use Rattle.lists.specs.Turns.{values, joined, inTurn, picked}
 
 -- ---- all lists have m elements
@@ -182,26 +182,38 @@ module _ {A : Type 0} where
       let a : n - i ≡ suc (n - (i + 1)) = omega arith in
       ap (λ (k : ℕ). joined (values f i k)) a ∙ ap (λ (k : ℕ). f i ++ joined (values f k (n - (i + 1)))) (sym (add-one i))
 
-  pub joined-long : (f : ℕ → List A) (a i n : ℕ) → ((k : ℕ) → length (f k) ≡ a) → length (joined (values f i n)) ≡ n * a
+  -- how long they are, where each of them has a elements; and piece k
+  pub pieces-long : (f : ℕ → List A) (a i n : ℕ) → ((k : ℕ) → i ≤ k → k < i + n → length (f k) ≡ a) → length (joined (values f i n)) ≡ n * a
   unfolding values joined
-  joined-long f a i zero e = sym (zero-mul a)
-  joined-long f a i (suc n) e =
-      length-append (f i) (joined (values f (suc i) n)) ∙ omega (arith, e i, joined-long f a (suc i) n e, suc-mul n a)
+  pieces-long f a i zero e = sym (zero-mul a)
+  pieces-long f a i (suc n) e =
+      length-append (f i) (joined (values f (suc i) n))
+      ∙ omega (arith, e i (omega arith) (omega arith), pieces-long f a (suc i) n (λ k h g. e k (omega arith) (omega arith)), suc-mul n a)
 
-  pub joined-at : (f : ℕ → List A) (a i n k : ℕ) → ((k : ℕ) → length (f k) ≡ a) → k < n → take a (drop (k * a) (joined (values f i n))) ≡ f (i + k)
+  pub joined-long : (f : ℕ → List A) (a i n : ℕ) → ((k : ℕ) → length (f k) ≡ a) → length (joined (values f i n)) ≡ n * a
+  joined-long f a i n e = pieces-long f a i n (λ k h g. e k)
+
+  pub piece-at : (f : ℕ → List A) (a i n k : ℕ) → ((k : ℕ) → i ≤ k → k < i + n → length (f k) ≡ a) → k < n
+      → take a (drop (k * a) (joined (values f i n))) ≡ f (i + k)
   unfolding values joined
-  joined-at f a i zero k e h = absurd (omega arith)
-  joined-at f a i (suc n) zero e h =
+  piece-at f a i zero k e h = absurd (omega arith)
+  piece-at f a i (suc n) zero e h =
       ap (λ (m : ℕ). take a (drop m (f i ++ joined (values f (suc i) n)))) (zero-mul a)
-      ∙ take-at (f i) (joined (values f (suc i) n)) a (e i)
+      ∙ take-at (f i) (joined (values f (suc i) n)) a (e i (omega arith) (omega arith))
       ∙ ap f (sym (add-zero i))
-  joined-at f a i (suc n) (suc k) e h =
+  piece-at f a i (suc n) (suc k) e h =
       let m : suc k * a ≡ a + k * a = omega (arith, suc-mul k a) in
       let j : suc i + k ≡ i + suc k = omega arith in
+      let l : length (f i) ≡ a = e i (omega arith) (omega arith) in
       ap (λ (m : ℕ). take a (drop m (f i ++ joined (values f (suc i) n)))) m
-      ∙ ap (take a) (sym (drop-drop (k * a) a (f i ++ joined (values f (suc i) n))) ∙ ap (drop (k * a)) (drop-at (f i) (joined (values f (suc i) n)) a (e i)))
-      ∙ joined-at f a (suc i) n k e (omega arith)
+      ∙ ap (take a)
+      (sym (drop-drop (k * a) a (f i ++ joined (values f (suc i) n)))
+      ∙ ap (drop (k * a)) (drop-at (f i) (joined (values f (suc i) n)) a l))
+      ∙ piece-at f a (suc i) n k (λ k h g. e k (omega arith) (omega arith)) (omega arith)
       ∙ ap f j
+
+  pub joined-at : (f : ℕ → List A) (a i n k : ℕ) → ((k : ℕ) → length (f k) ≡ a) → k < n → take a (drop (k * a) (joined (values f i n))) ≡ f (i + k)
+  joined-at f a i n k e h = piece-at f a i n k (λ k h g. e k) h
 
   -- ---- where every list has as many, how many there are
   pub turn-long : (w n : ℕ) (ls : List (List A)) → Long (w * n) ls → length (inTurn w n ls) ≡ w * length ls * n
@@ -320,3 +332,24 @@ module _ {A : Type 0} where
   picked-all s n e =
       let l : length s ≡ 1 * n = omega arith in
       ap (λ (r : List A). picked 1 1 r 0 n) (sym (turn-one 1 n s l)) ∙ picked-turn 1 n (s ∷ []) 0 (l, tt) (omega arith)
+
+  -- ---- the first n of m turns
+  pub turn-first : (n m : ℕ) (ls : List (List A)) → n ≤ m → Long m ls → inTurn 1 n ls ≡ take (n * length ls) (inTurn 1 m ls)
+  unfolding inTurn
+  turn-first zero m ls h e = ap (λ (k : ℕ). take k (inTurn 1 m ls)) (sym (zero-mul (length ls)))
+  turn-first (suc n) zero ls h e = absurd (omega arith)
+  turn-first (suc n) (suc m) ls h e =
+      let js : List A = joined (map (take 1) ls) in
+      let ds : List (List A) = map (drop 1) ls in
+      let k : length js + n * length ds ≡ suc n * length ls =
+      omega (arith, round-long 1 (suc m) ls e (omega arith), suc-mul n (length ls), ap (λ (c : ℕ). n * c) (drops-count 1 ls)) in
+      let e′ : Long (m + 1) ls = subst (λ (k : ℕ). Long k ls) (sym (add-one m)) e in
+      ap (λ (l : List A). js ++ l) (turn-first n m ds (omega arith) (drops-long 1 m ls e′))
+      ∙ sym (take-append-add js (inTurn 1 m ds) (n * length ds))
+      ∙ ap (λ (k : ℕ). take k (js ++ inTurn 1 m ds)) k
+
+  -- ---- values that are lists of one length
+  pub values-alike : (f : ℕ → List A) (m i n : ℕ) → ((k : ℕ) → i ≤ k → k < i + n → length (f k) ≡ m) → Long m (values f i n)
+  unfolding values
+  values-alike f m i zero e = tt
+  values-alike f m i (suc n) e = (e i (omega arith) (omega arith), values-alike f m (suc i) n (λ k h g. e k (omega arith) (omega arith)))

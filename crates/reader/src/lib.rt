@@ -91,10 +91,10 @@ fn open_chunks(file: &[u8], places: Directory) -> Opened
             sound: Spot::Missing,
         };
     };
-    let sound = places.sound;
+    let spot = places.sound;
     Opened {
         answer: answer,
-        sound: sound,
+        sound: spot,
     }
 }
 

@@ -1,0 +1,66 @@
+-- The whole sound and its blocks, for the crates above: how long each is, and that block k is its part of the whole.
+-- Assumes nothing.
+use mathlib.Core.Path.{_≡_, sym, ap, _∙_}
+use mathlib.Core.Bool.{true}
+use mathlib.Core.List.{List}
+use Prim.Native.Nat.{ℕ, _+_, _-_, _*_, _≤_, _<_}
+use native.Mathlib.Nat.{zero-add, mul-assoc, mul-le-mul-right}
+use native.Mathlib.Omega.{arith}
+use lib.IntN.{ℤ}
+use lib.ListN.{length, take, drop}
+use lib.Seq.{length-take-le}
+use Rattle.lists.specs.Turns.{values, joined}
+use Rattle.lists.proofs.Cuts.{drop-take, take-swap}
+use Rattle.lists.proofs.Turns.{pieces-long, piece-at}
+use Rattle.units.specs.declared.Frames.{Frames}
+use Rattle.formats.specs.declared.Format.{Format}
+use Rattle.formats.specs.Format.{formatRule}
+use Rattle.formats.proofs.Taken.{frames-most}
+use Rattle.decoder.specs.Sound.{blockCount, blockAt, blockSound, wholeSound, Sounding}
+use Rattle.decoder.proofs.Blocks.{all-long}
+use Rattle.decoder.proofs.Laws.{block-sized}
+use Rattle.decoder.proofs.Loops.{times-less}
+
+-- a block has samples x channels of them
+pub block-long : (f : Format) (w : List ℕ) (k : ℕ) → formatRule f ≡ true → k < blockCount f w
+    → length (blockSound f w k) ≡ f .samples * f .channels
+unfolding blockSound
+block-long f w k e h = all-long f e (blockAt f w k) (block-sized f w k h)
+
+module _ {f : Format} {frames : Frames} {w : List ℕ} (q : Sounding f frames w) where
+  abbrev all : List ℤ
+  all = joined (values (blockSound f w) 0 (blockCount f w))
+
+  each-long : (k : ℕ) → 0 ≤ k → k < 0 + blockCount f w → length (blockSound f w k) ≡ f .samples * f .channels
+  each-long k l h = block-long f w k (q .rule) (omega arith)
+
+  within : frames .0 * f .channels ≤ length all
+  unfolding blockCount
+  within =
+      let m : frames .0 * f .channels ≤ blockCount f w * f .samples * f .channels =
+      mul-le-mul-right (f .channels) (frames-most f (record { 0 = length w }) frames (q .count) (q .rule)) in
+      omega (
+        arith,
+        pieces-long (blockSound f w) (f .samples * f .channels) 0 (blockCount f w) each-long,
+        mul-assoc (blockCount f w) (f .samples) (f .channels),
+      )
+
+  -- the whole has F x channels
+  pub whole-long : length (wholeSound f (frames .0) w) ≡ frames .0 * f .channels
+  unfolding wholeSound
+  whole-long = length-take-le (frames .0 * f .channels) all within
+
+  -- frames k x S up to (k + 1) x S of the whole are what the F frames take of block k
+  pub block-of-whole : (k : ℕ) → k < blockCount f w
+      → take (f .samples * f .channels) (drop (k * (f .samples * f .channels)) (wholeSound f (frames .0) w))
+      ≡ take ((frames .0 - k * f .samples) * f .channels) (blockSound f w k)
+  unfolding wholeSound
+  block-of-whole k h =
+      let a : ℕ = f .samples * f .channels in
+      let n : frames .0 * f .channels - k * a ≡ (frames .0 - k * f .samples) * f .channels =
+      ap (λ (i : ℕ). frames .0 * f .channels - i) (sym (mul-assoc k (f .samples) (f .channels)))
+      ∙ sym (times-less (frames .0) (k * f .samples) (f .channels)) in
+      ap (take a) (drop-take (k * a) (frames .0 * f .channels) all)
+      ∙ take-swap a (frames .0 * f .channels - k * a) (drop (k * a) all)
+      ∙ (λ i.
+      take (n i) ((piece-at (blockSound f w) a 0 (blockCount f w) k each-long h ∙ ap (blockSound f w) (zero-add k)) i))

@@ -1,0 +1,118 @@
+-- The checks of decoding, one law for each way out, in the words of the code. Assumes nothing.
+use mathlib.Core.Path.{_≡_, refl, sym, ap, _∙_, subst}
+use mathlib.Core.Bool.{Bool, true, false, not, _&&_}
+use mathlib.Core.List.{List}
+use Prim.Native.Nat.{ℕ, _*_, _≤_, _<_}
+use native.Mathlib.Nat.{mul-le-mul, le-of-lt}
+use native.Mathlib.Omega.{arith}
+use lib.Dec.{T, ltb, eqb, ltb→lt}
+use lib.IntN.{ℤ}
+use mir.Syntax.{w16, w32, w64}
+use mir.Val.{Fits}
+use mir.Facts.{and-yes}
+use borrow.Author.Tests.{not-true, not-false}
+use Rattle.little.specs.Writing.{front}
+use Rattle.little.proofs.Tests.{tests}
+use Rattle.units.specs.declared.Refusal.the-variants.{OutputTooSmall, BlockHeaderWrong, NoSuchBlock}
+use Rattle.formats.specs.declared.Format.{Format}
+use Rattle.formats.specs.Frames.{needsFact}
+use Rattle.decoder.specs.Sound.{blockFrames, blockFine, blockCount, blockAt, hasBlock, blockSound, wholeSound, dataFine}
+use Rattle.sound.specs.declared.Decoded.{Decoded}
+use Rattle.sound.specs.declared.Decoded.the-variants.{Frames, Refused}
+use Rattle.sound.specs.Decoding.{wholeVerdict, blockVerdict, answer, holding}
+
+-- frames of all channels are counted in 64 bits
+product : {a b : ℕ} → a ≤ 4294967296 → b ≤ 65536 → a * b ≤ 4294967296 * 65536
+product h g = mul-le-mul h g
+
+room-fits : {a b : ℕ} → a ≤ 4294967296 → b ≤ 65536 → Fits w64 (a * b)
+room-fits {a} {b} h g = record { fits = omega (arith, product h g) }
+
+pub frames-fit : {a b : ℕ} → Fits w32 a → Fits w16 b → Fits w64 (a * b)
+frames-fit f g = room-fits (le-of-lt (f .fits)) (le-of-lt (g .fits))
+
+pub block-fits : {a b : ℕ} → Fits w16 a → Fits w16 b → Fits w64 (a * b)
+block-fits f g = room-fits (omega (arith, f .fits)) (le-of-lt (g .fits))
+
+-- ---- 14, then 15 for any block
+module _ (f : Format) (n : ℕ) (w : List ℕ) (room : ℕ) where
+  pub whole-small : room < n * f .channels → Refused OutputTooSmall ≡ answer (wholeVerdict f n w room) n
+  unfolding wholeVerdict
+  whole-small h = simp tests
+
+  module _ (h : n * f .channels ≤ room) {fine : Bool} (e : fine ≡ dataFine f w) where
+    pub whole-wrong : not fine ≡ true → Refused BlockHeaderWrong ≡ answer (wholeVerdict f n w room) n
+    unfolding wholeVerdict
+    whole-wrong t = let u : dataFine f w ≡ false = sym e ∙ not-true fine t in simp (tests, u)
+
+    pub whole-fine : not fine ≡ false → Frames (record { 0 = n }) ≡ answer (wholeVerdict f n w room) n
+    unfolding wholeVerdict
+    whole-fine t = let u : dataFine f w ≡ true = sym e ∙ not-false fine t in simp (tests, u)
+
+pub is-fine : (b : Bool) {fine : Bool} → fine ≡ b → not fine ≡ false → b ≡ true
+is-fine b {fine} e t = sym e ∙ not-false fine t
+
+pub ruleset whole = (frames-fit, whole-small, whole-wrong, whole-fine, is-fine)
+
+-- ---- whether there is such a block
+module _ (f : Format) (w : List ℕ) (k : ℕ) where
+  pub block-none : f .tag ≡ 1 → false ≡ hasBlock f w k
+  unfolding hasBlock
+  block-none h = simp tests
+
+  pub block-counted : {n : ℕ} → (f .tag ≡ 1 → ⊥) → n ≡ blockCount f w → ltb k n ≡ hasBlock f w k
+  unfolding hasBlock
+  block-counted h e = simp (tests, e)
+
+pub ruleset counted = (block-none, block-counted)
+
+-- ---- 20, then 14, then 15
+module _ (f : Format) (w : List ℕ) (k room : ℕ) {there : Bool} (e : there ≡ hasBlock f w k) where
+  pub part-none : not there ≡ true → Refused NoSuchBlock ≡ answer (blockVerdict f w k room) (f .samples)
+  unfolding blockVerdict
+  part-none t = let u : hasBlock f w k ≡ false = sym e ∙ not-true there t in simp u
+
+  module _ (t : not there ≡ false) where
+    is-there : hasBlock f w k ≡ true
+    is-there = sym e ∙ not-false there t
+
+    pub part-small : room < f .samples * f .channels → Refused OutputTooSmall ≡ answer (blockVerdict f w k room) (f .samples)
+    unfolding blockVerdict
+    part-small h = simp (tests, is-there)
+
+    module _ (h : f .samples * f .channels ≤ room) {b : List ℕ} (g : b ≡ blockAt f w k) {fine : Bool} (i : fine ≡ blockFine f b) where
+      fine-is : {v : Bool} → fine ≡ v → blockFine f (blockAt f w k) ≡ v
+      fine-is u = ap (blockFine f) (sym g) ∙ sym i ∙ u
+
+      pub part-wrong : not fine ≡ true → Refused BlockHeaderWrong ≡ answer (blockVerdict f w k room) (f .samples)
+      unfolding blockVerdict
+      part-wrong u = let v = fine-is (not-true fine u) in simp (tests, is-there, v)
+
+      pub part-fine : not fine ≡ false → Frames (record { 0 = f .samples }) ≡ answer (blockVerdict f w k room) (f .samples)
+      unfolding blockVerdict
+      part-fine u = let v = fine-is (not-false fine u) in simp (tests, is-there, v)
+
+-- what a block that is there promises
+module _ (f : Format) (w : List ℕ) (k : ℕ) {there : Bool} (e : there ≡ hasBlock f w k) (t : not there ≡ false) where
+  pub part-counted : k < blockCount f w
+  unfolding hasBlock
+  part-counted = by (eqb (f .tag) 1) (sym e ∙ not-false there t)
+    where
+      by : (x : Bool) → (not x && ltb k (blockCount f w)) ≡ true → k < blockCount f w
+      by true u = absurd (subst (λ (b : Bool). T (not b)) u tt)
+      by false u = ltb→lt k (blockCount f w) (subst T (sym u) tt)
+
+  pub part-adpcm : needsFact f ≡ true
+  unfolding hasBlock needsFact
+  part-adpcm = by (eqb (f .tag) 1) (sym e ∙ not-false there t)
+    where
+      by : (x : Bool) → (not x && ltb k (blockCount f w)) ≡ true → not x ≡ true
+      by true u = u
+      by false u = refl
+
+pub part-sound : (f : Format) (w : List ℕ) (k : ℕ) (d : List ℤ) {b : List ℕ} {out : List ℤ}
+    → b ≡ blockAt f w k → out ≡ front (blockFrames f (f .samples) b) d → out ≡ front (blockSound f w k) d
+unfolding blockSound
+part-sound f w k d g h = h ∙ ap (λ (b : List ℕ). front (blockFrames f (f .samples) b) d) g
+
+pub ruleset parts = (block-fits, is-fine, part-none, part-small, part-wrong, part-fine, part-counted, part-adpcm, part-sound)

@@ -1,0 +1,10 @@
+-- PCM has no block; else the blocks are counted.
+use Rattle.sound.proofs.Checks.{counted}
+use borrow.Author.Needs.{needs}
+use Rattle.sound.proofs.has_block.Statement.{statement}
+use Rattle.sound.proofs.has_block.Tie as tie
+
+pub has-block-spec : {M : Type 1} → statement M
+has-block-spec =
+    tie.close
+    (tie.spec (λ c. search (needs, counted)) (λ c κs. search needs) (λ c. search (needs, counted)))

@@ -1,0 +1,109 @@
+// Decodes each file on standard input, whole or one block of it, under its label. An entry of the input is
+// five numbers, the label and the file; all in 65,536 bytes. The numbers are: the length of the label, and 0
+// for a whole file or 1 for a block, in two bytes each; which block, in four; the room in samples, at most
+// 16,384, and the length of the file, in two each.
+//
+// It prints the answer and the lent sound; of more than 64 samples a number mixed of them as 16-bit PCM.
+// Before that each sample is 7.
+use libc::STDIN_FILENO;
+use sound::Decoded;
+use units::Frames;
+ghost use Prim.Native.Nat.{_≤_, _<_};
+ghost use lib.ListN.{length};
+
+// A name and a number after it.
+fn field(name: &[u8], value: u64) {
+    show::word(name);
+    show::number(value);
+}
+
+// How many frames were decoded.
+fn frames_line(frames: Frames) {
+    field(b"frames ", frames.0 as u64);
+    show::line();
+}
+
+// The answer of decoding.
+fn answer_line(answer: Decoded) {
+    match answer {
+        Decoded::Frames(frames) => frames_line(frames),
+        Decoded::Refused(refusal) => listing::refused(refusal),
+    }
+}
+
+// A number mixed of a lent sound of at most 16,384 samples.
+fn mixed_line(out: &[i16]) {
+    if 16384 < out.len() {
+        return;
+    }
+    let mut raw = [0u8; 32768];
+    samples::to_pcm16(out, &mut raw);
+    let bytes = riff::bytes_from(&raw, 0, 2 * out.len());
+    field(b"mixed ", show::mixed_bytes(bytes));
+    show::line();
+}
+
+// A lent sound.
+fn sound_line(out: &[i16]) {
+    if 64 < out.len() {
+        mixed_line(out);
+        return;
+    }
+    show::word(b"sound");
+    show::sound(out);
+    show::line();
+}
+
+// Decodes a file, or a block of it, to a lent sound.
+fn decode(file: &[u8], kind: u16, block: u32, out: &mut [i16]) {
+    if kind == 0 {
+        answer_line(sound::decode(file, out));
+        sound_line(out);
+        return;
+    }
+    answer_line(sound::decode_block(file, block, out));
+    sound_line(out);
+}
+
+// Decodes a file, or a block of it, into so many samples.
+fn decode_in(file: &[u8], kind: u16, block: u32, room: usize) {
+    if 16384 < room {
+        return;
+    }
+    let mut out = [7i16; 16384];
+    decode(file, kind, block, &mut out[..room]);
+}
+
+// Works on the entry at a place, and answers how long it is.
+fn entry(input: &[u8], at: usize) -> usize
+    requires { ⌜ at < 65536 ⌝ }
+    ensures { λ r. ⌜ (1 ≤ r) × (r ≤ 131082) ⌝ }
+{
+    let label = little::u16_or_zero(input, at) as usize;
+    let kind = little::u16_or_zero(input, at + 2);
+    let block = little::u32_or_zero(input, at + 4);
+    let room = little::u16_or_zero(input, at + 8) as usize;
+    let size = little::u16_or_zero(input, at + 10) as usize;
+    show::word(riff::bytes_from(input, at + 12, label));
+    show::line();
+    let file = riff::bytes_from(input, at + 12 + label, size);
+    decode_in(file, kind, block, room);
+    12 + label + size
+}
+
+// Works on every entry of the input.
+fn entries(input: &[u8])
+    requires { ⌜ length (now input) ≤ 65536 ⌝ }
+{
+    let mut at = 0;
+    while at < input.len() {
+        let size = entry(input, at);
+        at += size;
+    }
+}
+
+fn main() {
+    let mut buffer = [0u8; 65536];
+    let n = io::read_full(STDIN_FILENO, &mut buffer);
+    entries(&buffer[..n]);
+}
