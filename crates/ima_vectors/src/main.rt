@@ -10,17 +10,11 @@ use libc::STDIN_FILENO;
 ghost use Prim.Native.Nat.{_≤_, _<_};
 ghost use lib.ListN.{length};
 
-// A name and a number after it.
-fn field(name: &[u8], value: u64) {
-    show::word(name);
-    show::number(value);
-}
-
 // What coding gave.
 fn written_line(written: Written) {
-    field(b"bytes ", written.bytes.0 as u64);
-    field(b" left ", written.left.0 as u64);
-    field(b" right ", written.right.0 as u64);
+    show::field(b"bytes ", written.bytes.0 as u64);
+    show::field(b" left ", written.left.0 as u64);
+    show::field(b" right ", written.right.0 as u64);
     show::line();
 }
 
@@ -34,7 +28,7 @@ fn answer_line(answer: Encoded) {
 
 // A lent buffer: a number mixed of it, and its first bytes.
 fn buffer_line(out: &[u8]) {
-    field(b"mixed ", show::mixed_bytes(out));
+    show::field(b"mixed ", show::mixed_bytes(out));
     show::word(b" starts");
     show::bytes(riff::bytes_from(out, 0, 32));
     show::line();

@@ -5,25 +5,26 @@ use tables::Cue;
 use tables::Cues;
 use tables::Play;
 use tables::Playlist;
+use units::Frames;
 use units::Refusal;
 use units::Verdict;
 
-// A name and a number after it.
-fn field(name: &[u8], value: u64) {
-    show::word(name);
-    show::number(value);
-}
-
 // A refusal, by its number.
 pub fn refused(refusal: Refusal) {
-    field(b"refused ", units::number(refusal) as u64);
+    show::field(b"refused ", units::number(refusal) as u64);
+    show::line();
+}
+
+// How many frames there are.
+pub fn frames(count: Frames) {
+    show::field(b"frames ", count.0 as u64);
     show::line();
 }
 
 // A cue: its name and its place.
 fn cue_line(cue: Cue) {
-    field(b"cue ", cue.name.0 as u64);
-    field(b" at ", cue.place.0 as u64);
+    show::field(b"cue ", cue.name.0 as u64);
+    show::field(b" at ", cue.place.0 as u64);
     show::line();
 }
 
@@ -41,9 +42,9 @@ fn cues(table: Cues) {
 
 // A playlist entry: its name, how many frames, and how often.
 fn play_line(play: Play) {
-    field(b"play ", play.name.0 as u64);
-    field(b" length ", play.length.0 as u64);
-    field(b" times ", play.times as u64);
+    show::field(b"play ", play.name.0 as u64);
+    show::field(b" length ", play.length.0 as u64);
+    show::field(b" times ", play.times as u64);
     show::line();
 }
 
@@ -62,11 +63,11 @@ fn plays(playlist: Playlist) {
 // What a file says, line by line.
 fn accepted(made: Record) {
     let format = made.format;
-    field(b"wave tag ", format.tag as u64);
-    field(b" channels ", format.channels as u64);
-    field(b" rate ", format.rate as u64);
-    field(b" bits ", format.bits as u64);
-    field(b" frames ", made.frames.0 as u64);
+    show::field(b"wave tag ", format.tag as u64);
+    show::field(b" channels ", format.channels as u64);
+    show::field(b" rate ", format.rate as u64);
+    show::field(b" bits ", format.bits as u64);
+    show::field(b" frames ", made.frames.0 as u64);
     show::line();
     let table = made.cues;
     cues(table);

@@ -18,6 +18,12 @@ pub fn number(value: u64) {
     io::print_decimal(STDOUT_FILENO, value);
 }
 
+// A name and a number after it.
+pub fn field(name: &[u8], value: u64) {
+    word(name);
+    number(value);
+}
+
 // A sample in decimal digits, with a minus sign below zero.
 pub fn sample(value: i16) {
     let wide = value as i32;

@@ -3,24 +3,11 @@
 // sound has as 16-bit PCM, without the fill of the last block, and a number mixed of them. At most 65,536
 // bytes of a file are read, and at most 65,536 samples decoded.
 use sound::Decoded;
-use units::Frames;
-
-// A name and a number after it.
-fn field(name: &[u8], value: u64) {
-    show::word(name);
-    show::number(value);
-}
-
-// How many frames were decoded.
-fn frames_line(frames: Frames) {
-    field(b"frames ", frames.0 as u64);
-    show::line();
-}
 
 // The answer of decoding.
 fn answer_line(answer: Decoded) {
     match answer {
-        Decoded::Frames(frames) => frames_line(frames),
+        Decoded::Frames(frames) => listing::frames(frames),
         Decoded::Refused(refusal) => listing::refused(refusal),
     }
 }
@@ -42,8 +29,8 @@ fn sound_line(out: &[i16], size: usize) {
     let mut raw = [0u8; 131072];
     samples::to_pcm16(out, &mut raw);
     let bytes = riff::bytes_from(&raw, 0, size);
-    field(b"bytes ", bytes.len() as u64);
-    field(b" mixed ", show::mixed_bytes(bytes));
+    show::field(b"bytes ", bytes.len() as u64);
+    show::field(b" mixed ", show::mixed_bytes(bytes));
     show::line();
 }
 

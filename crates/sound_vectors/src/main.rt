@@ -7,26 +7,13 @@
 // Before that each sample is 7.
 use libc::STDIN_FILENO;
 use sound::Decoded;
-use units::Frames;
 ghost use Prim.Native.Nat.{_≤_, _<_};
 ghost use lib.ListN.{length};
-
-// A name and a number after it.
-fn field(name: &[u8], value: u64) {
-    show::word(name);
-    show::number(value);
-}
-
-// How many frames were decoded.
-fn frames_line(frames: Frames) {
-    field(b"frames ", frames.0 as u64);
-    show::line();
-}
 
 // The answer of decoding.
 fn answer_line(answer: Decoded) {
     match answer {
-        Decoded::Frames(frames) => frames_line(frames),
+        Decoded::Frames(frames) => listing::frames(frames),
         Decoded::Refused(refusal) => listing::refused(refusal),
     }
 }
@@ -39,7 +26,7 @@ fn mixed_line(out: &[i16]) {
     let mut raw = [0u8; 32768];
     samples::to_pcm16(out, &mut raw);
     let bytes = riff::bytes_from(&raw, 0, 2 * out.len());
-    field(b"mixed ", show::mixed_bytes(bytes));
+    show::field(b"mixed ", show::mixed_bytes(bytes));
     show::line();
 }
 
