@@ -102,7 +102,7 @@ def mono(nibbles, pair=2, delta=16, newer=0, older=0):
 
 
 def examples():
-    """What document 01 prints, as it stands there; the second decoder must say the same."""
+    """What document 01 prints, as whole lines; the second decoder must say the same."""
     ima, worked = wave_files.ima(), bytes.fromhex('00 80 00 00 77 77 77 77 77 17 00 00')
     stored = [
         (whole('the Microsoft block', adpcm(MICROSOFT, 1, bytes.fromhex('00 10 00 64 00 32 00 1F'))),
@@ -113,15 +113,15 @@ def examples():
         (whole('code 9 after 0', adpcm(IMA, 1, header(0, 0) + b'\11\0\0\0', frames=2)), 'sound 0 -1 7 7'),
         (whole('index 88', adpcm(IMA, 1, header(100, 88) + bytes(4), frames=1)), 'frames 1', 'sound 100 7 7'),
         (whole('index 89', adpcm(IMA, 1, header(100, 89) + bytes(4), frames=1)), 'refused 15', 'sound 7 7 7'),
-        (whole('the worked IMA block', adpcm(IMA, 1, worked)), 'frames 17', 'sound -32768 -32757 '),
+        (whole('the worked IMA block', adpcm(IMA, 1, worked)), 'frames 17'),
         (whole('IMA, no block', wave_files.wave(ima, wave_files.fact(0), wave_files.data(0))), 'frames 0', 'sound 7 7'),
         (one('IMA mono, align 256', adpcm(IMA, 1, header(0, 0) + bytes(252), frames=1)), 'frames 505'),
         (one('Microsoft mono, align 256', adpcm(MICROSOFT, 1, bytes(256), frames=1)), 'frames 500'),
     ]
-    for (made, lines), *words in stored:
-        for word in words:
-            if word not in '\n'.join(lines):
-                raise ValueError(f'document 01 says {word!r}, the second decoder {lines}')
+    for (made, lines), *printed in stored:
+        for line in printed:
+            if line not in lines[1:]:
+                raise ValueError(f'document 01 says {line!r}, the second decoder {lines}')
         yield made, lines
 
 
@@ -161,7 +161,7 @@ def numbers():
 
 
 def headers():
-    """Refusal 15: in each block and channel, after 14 and 20; a block alone goes by its own header."""
+    """Refusal 15: in each block of mono and each channel of one block, after 14 and 20; the borders of both formats."""
     for tag, most, good in ((IMA, 88, header(3, 88) + CODES[:4]), (MICROSOFT, 6, block('1f', (6, 20, 3, 4)))):
         at = 2 if tag == IMA else 0
         name = 'IMA' if tag == IMA else 'Microsoft'
@@ -187,6 +187,27 @@ def headers():
             yield whole(f'Microsoft, predictors {first} and {second}', file)
     yield whole('89 where the second index of stereo stands', adpcm(IMA, 1, header(0, 0) + bytes([1, 2, 89, 3])))
     yield whole('7 where the second predictor of stereo stands', mono('1f', 1, 7))
+
+
+def stereo_block(tag, turn, values):
+    """A short stereo block that differs from turn to turn, with these two indices or predictors."""
+    if tag == IMA:
+        return header(turn, values[0]) + header(-turn, values[1]) + TWO[:8]
+    return block('1f2e', (values[0], 9, turn, 5), (values[1], 8, -turn, 700))
+
+
+def stereo_headers():
+    """Refusal 15 for one header of one of three stereo blocks; that block alone, and the good ones beside it."""
+    for tag, name, most in ((IMA, 'IMA', 88), (MICROSOFT, 'Microsoft', 6)):
+        good = [stereo_block(tag, turn, (most, most)) for turn in range(3)]
+        for place in range(3):
+            for side, values in (('left', (most + 1, most)), ('right', (most, most + 1))):
+                bad = stereo_block(tag, place, values)
+                file = adpcm(tag, 2, *good[:place], bad, *good[place + 1:])
+                label = f'{name} stereo, {side} header of block {place} wrong'
+                yield whole(label, file)
+                for number in range(max(place - 1, 0), min(place + 2, 3)):
+                    yield one(f'{label}, block {number}', file, number)
 
 
 def refused_by_reader():
@@ -313,24 +334,27 @@ def places():
 
 
 def all_vectors():
-    return [*examples(), *rooms(), *numbers(), *headers(), *refused_by_reader(), *pcm_sounds(), *microsoft_blocks(),
-            *ima_blocks(), *lengths(), *places()]
+    return [*examples(), *rooms(), *numbers(), *headers(), *stereo_headers(), *refused_by_reader(), *pcm_sounds(),
+            *microsoft_blocks(), *ima_blocks(), *lengths(), *places()]
 
 
-def some_block(chance, tag, channels, align, wrong=0.025):
-    """A block of loud or of soft codes; now and then its header is wrong."""
-    most = 255 if chance.random() < wrong else 88 if tag == IMA else 6
+def some_block(chance, tag, channels, align, wrong=False):
+    """A block of loud or of soft codes; a wrong one is so in the header of one channel only."""
+    most = 88 if tag == IMA else 6
+    values = [chance.randint(0, most) for _ in range(channels)]
+    if wrong:
+        values[chance.randrange(channels)] = chance.choice([most + 1, chance.randint(most + 1, 255)])
     samples = [chance.choice([chance.randint(LOW, HIGH), chance.randint(-9, 9)]) for _ in range(3 * channels)]
     if tag == IMA:
-        made = b''.join(header(sample, chance.randint(0, most), chance.randrange(256)) for sample in samples[:channels])
+        made = b''.join(header(sample, value, chance.randrange(256)) for sample, value in zip(samples, values))
     else:
-        made = bytes(chance.randint(0, most) for _ in range(channels)) + sixteen(*samples)
+        made = bytes(values) + sixteen(*samples)
     soft = chance.choice([range(256), [0, 1, 15, 16, 17, 31, 128, 136, 240, 255]])
     return made + bytes(chance.choice(soft) for _ in range(align - len(made)))
 
 
 def some_file(chance):
-    """A file of any format; now and then its fact is wrong, or it is damaged."""
+    """A file of any format; now and then its fact or one header of one block is wrong, or it is damaged."""
     channels, tag = chance.choice([1, 2]), chance.choice([1, IMA, IMA, MICROSOFT, MICROSOFT])
     if tag == 1:
         bits = chance.choice([8, 16])
@@ -343,7 +367,8 @@ def some_file(chance):
         blocks = chance.randint(0, 4)
         frames = (blocks - 1) * samples + chance.randint(1, samples) if blocks else 0
         fact = [wave_files.fact(frames + chance.choice([0] * 40 + [1, samples]))]
-        sound = b''.join(some_block(chance, tag, channels, align) for _ in range(blocks))
+        wrong = chance.choice([0, 1, 2, 3, None, None, None, None])
+        sound = b''.join(some_block(chance, tag, channels, align, turn == wrong) for turn in range(blocks))
     junk = [wave_files.chunk(b'junk', chance.randbytes(chance.randrange(9))) for _ in range(chance.randrange(3))]
     behind = [wave_files.chunk(b'data', sound), *fact, *junk]
     chance.shuffle(behind)
@@ -366,7 +391,7 @@ def many(count, seed):
     for tag, name in ((IMA, 'IMA'), (MICROSOFT, 'Microsoft')):
         for channels in (1, 2):
             for align in (4096, 4096 - 4 * channels):
-                made = [some_block(chance, tag, channels, align, 0) for _ in range(3)]
+                made = [some_block(chance, tag, channels, align) for _ in range(3)]
                 yield whole(f'{name}, {channels} channels, align {align}', adpcm(tag, channels, made[0]))
                 yield one(f'{name}, {channels} channels, block of align {align}', adpcm(tag, channels, *made), 2)
     for place in range(count):

@@ -1,7 +1,7 @@
 -- Laws of whole blocks: the frames of a block are its header samples and what is heard of its codes. Assumes nothing.
 use mathlib.Core.Path.{_≡_, refl, sym, ap, _∙_}
 use mathlib.Core.Bool.{true}
-use mathlib.Core.List.{List, [], _∷_, _++_}
+use mathlib.Core.List.{List, [], _∷_}
 use Prim.Native.Nat.{ℕ, suc, _+_, _-_, _*_, _%_, _≤_, _<_}
 use native.Mathlib.Omega.{arith}
 use lib.IntN.{ℤ}
@@ -16,7 +16,7 @@ use Rattle.lists.proofs.Turns.{turn-room}
 use Rattle.samples.specs.Sound.{sampleAt}
 use Rattle.samples.proofs.Signed.{back}
 use Rattle.steps.specs.declared.State.{State}
-use Rattle.blocks.specs.Block.{samplesPerBlock, channelPart, opened, headersFine, heard, soundIn, framesIn}
+use Rattle.blocks.specs.Block.{samplesPerBlock, channelPart, headersFine, heard, soundIn, framesIn}
 use Rattle.blocks.proofs.Parts.{part-one, opened-one, opened-left, opened-right, index-one, index-left, index-right}
 
 -- ---- mono

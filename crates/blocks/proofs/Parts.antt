@@ -16,7 +16,7 @@ use Rattle.little.specs.Numbers.{numberAt}
 use Rattle.little.proofs.Reading.{two-bytes}
 use Rattle.lists.specs.Every.{every}
 use Rattle.lists.specs.Turns.{picked}
-use Rattle.lists.proofs.Laws.{and-both}
+use Rattle.lists.proofs.Laws.{and-true, and-both}
 use Rattle.lists.proofs.Turns.{picked-turn, turn-one, picked-at, picked-long}
 use Rattle.samples.specs.Sound.{signedOf, sampleAt}
 use Rattle.steps.specs.declared.State.{State}
@@ -93,10 +93,6 @@ module _ (s : List ℕ) {t : State} where
     opened-right = opened-two 1 (omega arith)
 
 -- ---- the check of the headers
-and-true : (b : Bool) → (b && true) ≡ b
-and-true true = refl
-and-true false = refl
-
 pub headers-one : (s : List ℕ) → 4 ≤ length s → headersFine 1 s ≡ leb (getD s 2 0) 88
 unfolding headersFine every opened
 headers-one s h = and-true (leb (getD (channelPart 1 s 0) 2 0) 88) ∙ ap (λ (k : ℕ). leb k 88) (one-at s 2 (omega arith))

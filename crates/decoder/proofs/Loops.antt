@@ -20,9 +20,9 @@ use Rattle.samples.proofs.Signed.{by-leb}
 use Rattle.units.specs.declared.Frames.{Frames}
 use Rattle.formats.specs.declared.Format.{Format}
 use Rattle.formats.specs.Format.{formatRule}
-use Rattle.formats.specs.Frames.{needsFact}
+use Rattle.formats.specs.Frames.{needsFact, Sounding}
 use Rattle.formats.proofs.Taken.{taken-samples, wanted-tag, frames-begun}
-use Rattle.decoder.specs.Sound.{blockFrames, blockFine, blockCount, blockAt, blockSound, wholeSound, dataFine, Sounding}
+use Rattle.decoder.specs.Sound.{blockFrames, blockFine, blockCount, blockAt, blockSound, wholeSound, dataFine}
 use Rattle.decoder.proofs.Blocks.{all-long, frames-first, frames-long}
 use Rattle.decoder.proofs.Laws.{block-sized, all-fine}
 

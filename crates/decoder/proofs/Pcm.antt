@@ -19,9 +19,9 @@ use Rattle.samples.specs.Sound.{signedOf, sampleAt, samplesIn, eight}
 use Rattle.samples.proofs.Turning.{length-samples}
 use Rattle.units.specs.declared.Frames.{Frames}
 use Rattle.formats.specs.declared.Format.{Format}
-use Rattle.formats.specs.Frames.{needsFact}
+use Rattle.formats.specs.Frames.{needsFact, Sounding}
 use Rattle.formats.proofs.Taken.{taken-some, taken-two, taken-pcm, taken-eight, taken-sixteen, unneeded-tag, whole-says, frames-exactly}
-use Rattle.decoder.specs.Sound.{pcmSample, blockFrames, blockCount, blockAt, blockSound, wholeSound, Sounding}
+use Rattle.decoder.specs.Sound.{pcmSample, blockFrames, blockCount, blockAt, blockSound, wholeSound}
 use Rattle.decoder.proofs.Blocks.{sound-pcm}
 use Rattle.decoder.proofs.Laws.{block-sized}
 

@@ -14,9 +14,10 @@ use Rattle.lists.proofs.Cuts.{drop-take, take-swap}
 use Rattle.lists.proofs.Turns.{pieces-long, piece-at}
 use Rattle.units.specs.declared.Frames.{Frames}
 use Rattle.formats.specs.declared.Format.{Format}
+use Rattle.formats.specs.Frames.{Sounding}
 use Rattle.formats.specs.Format.{formatRule}
 use Rattle.formats.proofs.Taken.{frames-most}
-use Rattle.decoder.specs.Sound.{blockCount, blockAt, blockSound, wholeSound, Sounding}
+use Rattle.decoder.specs.Sound.{blockCount, blockAt, blockSound, wholeSound}
 use Rattle.decoder.proofs.Blocks.{all-long}
 use Rattle.decoder.proofs.Laws.{block-sized}
 use Rattle.decoder.proofs.Loops.{times-less}

@@ -1,7 +1,6 @@
 -- The sound of data in a format: its channels, its blocks, and the whole. Assumes nothing.
 use Prim.Native.Nat.{ℕ, _*_}
-use mathlib.Core.Path.{_≡_}
-use mathlib.Core.Bool.{Bool, true, not, cond, _&&_}
+use mathlib.Core.Bool.{Bool, true, cond, _&&_}
 use mathlib.Core.List.{List, [], _∷_}
 use lib.Dec.{ltb, eqb}
 use lib.IntN.{ℤ}
@@ -9,10 +8,9 @@ use lib.ListN.{length, take, drop, getD}
 use Rattle.lists.specs.Every.{every}
 use Rattle.lists.specs.Turns.{values, joined, inTurn}
 use Rattle.samples.specs.Sound.{sampleAt, eight}
-use Rattle.units.specs.declared.Frames.{Frames}
 use Rattle.formats.specs.declared.Format.{Format}
-use Rattle.formats.specs.Format.{byTag, formatRule}
-use Rattle.formats.specs.Frames.{wholeBlocks, blocksIn, framesRule}
+use Rattle.formats.specs.Format.{byTag}
+use Rattle.formats.specs.Frames.{needsFact, blocksIn}
 use Rattle.blocks.specs.Block as ima
 use Rattle.msadpcm.specs.Block as microsoft
 
@@ -40,6 +38,7 @@ blockFine f b = byTag (f .tag) true (ima.headersFine (f .channels) b) (microsoft
 
 -- ---- sound data w, which are blocks one after the other
 
+-- how many blocks they are
 unfoldable pub blockCount : Format → List ℕ → ℕ
 blockCount f w = blocksIn f (record { 0 = length w })
 
@@ -47,9 +46,9 @@ blockCount f w = blocksIn f (record { 0 = length w })
 unfoldable pub blockAt : Format → List ℕ → ℕ → List ℕ
 blockAt f w k = take (f .align) (drop (k * f .align) w)
 
--- ADPCM data have a block k; PCM has none to decode alone
+-- there is a block k, and it can be decoded alone: PCM, which alone needs no fact, has no such blocks
 unfoldable pub hasBlock : Format → List ℕ → ℕ → Bool
-hasBlock f w k = not (eqb (f .tag) 1) && ltb k (blockCount f w)
+hasBlock f w k = needsFact f && ltb k (blockCount f w)
 
 -- the sound of block k: all its frames, so with its fill
 unfoldable pub blockSound : Format → List ℕ → ℕ → List ℤ
@@ -62,9 +61,3 @@ wholeSound f frames w = take (frames * f .channels) (joined (values (blockSound 
 -- the headers of all blocks are fine
 unfoldable pub dataFine : Format → List ℕ → Bool
 dataFine f w = every (λ k. blockFine f (blockAt f w k)) 0 (blockCount f w)
-
--- ---- what reading has made sure of: 9, 10 and the count of 11
-pub record Sounding (f : Format) (frames : Frames) (w : List ℕ) : Type 0 where
-  pub rule : formatRule f ≡ true
-  pub whole : wholeBlocks f (record { 0 = length w }) ≡ true
-  pub count : framesRule f (record { 0 = length w }) frames ≡ true

@@ -17,8 +17,8 @@ ghost use Rattle.little.specs.Writing.{Put, front};
 ghost use Rattle.steps.specs.Code.{steps};
 ghost use Rattle.prediction.specs.Nibble.{factors};
 ghost use Rattle.formats.specs.Format.{formatRule};
-ghost use Rattle.formats.specs.Frames.{needsFact};
-ghost use Rattle.decoder.specs.Sound.{blockFrames, blockFine, blockCount, blockAt, wholeSound, dataFine, Sounding};
+ghost use Rattle.formats.specs.Frames.{needsFact, Sounding};
+ghost use Rattle.decoder.specs.Sound.{blockFrames, blockFine, blockCount, blockAt, wholeSound, dataFine};
 
 // How many blocks the data are.
 pub fn block_count(format: Format, bytes: &[u8]) -> usize
@@ -81,8 +81,8 @@ pub fn data_fine(format: Format, bytes: &[u8]) -> bool
     headers_fine(format, bytes)
 }
 
-// Puts the first frames of an ADPCM block at a place. The tables are lent, so that they are copied once for
-// all blocks.
+// Puts the first frames of an ADPCM block at a place. The tables of IMA steps and Microsoft factors are
+// lent, so that they are copied once for all blocks.
 fn put_block(
     format: Format,
     frames: usize,

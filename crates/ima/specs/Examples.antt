@@ -1,16 +1,11 @@
--- The examples of document 01 on IMA that are marked P, as one list under one statement. Assumes nothing.
-use Prim.Native.Nat.{ℕ}
+-- The examples of document 01 on coding that are marked P, as one list under one statement. Assumes nothing.
 use mathlib.Core.Path.{_≡_}
 use mathlib.Core.Bool.{cond}
 use mathlib.Core.List.{List, [], _∷_, _++_, map}
 use lib.IntN.{ℤ, pos, negsuc}
 use lib.ListN.{replicate}
-use Rattle.units.specs.declared.Refusal.the-variants.{BlockHeaderWrong}
-use Rattle.units.specs.declared.Verdict.the-variants.{Accepted}
-use Rattle.units.specs.Refusals.{verdictNumber, demand}
 use Rattle.steps.specs.declared.State.{State}
 use Rattle.steps.specs.Code.{codeFor, tracked, isChased}
-use Rattle.blocks.specs.Block.{headersFine}
 use Rattle.ima.specs.Encoding.{encodedBytes, chasedCount}
 
 -- what the definitions give, and what document 01 prints
@@ -28,11 +23,6 @@ coded x =
 unfoldable pub written : List ℤ → List ℤ
 written s = map pos (encodedBytes 1 12 s) ++ (pos (chasedCount 1 12 s 0) ∷ [])
 
--- the number of a mono block whose header holds an index
-unfoldable pub headed : ℕ → List ℤ
-headed i =
-    pos (verdictNumber (demand (headersFine 1 (0 ∷ 0 ∷ i ∷ 0 ∷ 0 ∷ 0 ∷ 0 ∷ 0 ∷ [])) BlockHeaderWrong Accepted)) ∷ []
-
 unfoldable pub examples : List Example
 examples =
     -- 13 gives code 7, decoded 11
@@ -46,9 +36,6 @@ examples =
       given = written (negsuc 32767 ∷ replicate 16 (pos 32767));
       printed = map pos (0 ∷ 128 ∷ 0 ∷ 0 ∷ 119 ∷ 119 ∷ 119 ∷ 119 ∷ 119 ∷ 23 ∷ 0 ∷ 0 ∷ 11 ∷ []);
     }
-    -- index 88 read, 89 is 15
-    ∷ record { given = headed 88; printed = pos 0 ∷ [] }
-    ∷ record { given = headed 89; printed = pos 15 ∷ [] }
     ∷ []
 
 unfoldable pub Worked : Type 0

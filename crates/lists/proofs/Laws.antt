@@ -163,7 +163,11 @@ every-all test i zero f = refl
 every-all test i (suc n) f =
     ap (λ (b : Bool). b && every test (suc i) n) (f i (omega arith) (omega arith)) ∙ every-all test (suc i) n (λ k h g. f k (omega arith) (omega arith))
 
--- both of two that hold together
+-- a test alone; and both of two that hold together
+pub and-true : (b : Bool) → (b && true) ≡ b
+and-true true = refl
+and-true false = refl
+
 pub and-both : (a b : Bool) → (a && b) ≡ true → (a ≡ true) × (b ≡ true)
 and-both true b e = (refl, e)
 and-both false b e = (e, cc)

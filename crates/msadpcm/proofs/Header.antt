@@ -14,6 +14,7 @@ use mir.Facts.{toZ-ofZ, and-yes}
 use borrow.Author.Tests.{leb-true, lt-leb, le-leb, eqb-true, eqb-false}
 use Rattle.formats.specs.Format.{pairs}
 use Rattle.lists.specs.Every.{every}
+use Rattle.lists.proofs.Laws.{and-true, and-both}
 use Rattle.prediction.specs.declared.State.{State}
 use Rattle.prediction.specs.Nibble.{Tame}
 use Rattle.samples.specs.Sound.{sampleAt}
@@ -22,14 +23,6 @@ use Rattle.samples.proofs.Laws.{widened, wide-is}
 use Rattle.msadpcm.specs.Block.{predictorOf, headersFine, coefficient, opened}
 
 -- ---- the check of the headers
-and-true : (b : Bool) → (b && true) ≡ b
-and-true true = refl
-and-true false = refl
-
-and-both : (a b : Bool) → (a && b) ≡ true → (a ≡ true) × (b ≡ true)
-and-both true b e = (refl, e)
-and-both false b e = (e, cc)
-
 module _ (s : List ℕ) where
   headers-one : headersFine 1 s ≡ leb (getD s 0 0) 6
   unfolding headersFine every predictorOf

@@ -46,7 +46,7 @@ decoded t k =
       older = t .newer;
     }
 
--- a channel whose products fit 32 bits: its pair is none above those of document 01, and its delta is held
+-- a channel whose pair and delta are small enough that all products fit 32 bits
 pub record Tame (t : State) : Type 0 where
   pub first : natAbs (t .first) ≤ 512
   pub second : natAbs (t .second) ≤ 256

@@ -17,18 +17,12 @@ use Rattle.riff.specs.declared.Walked.the-variants.{Whole, Stopped}
 use Rattle.riff.specs.Chunks.{isThere}
 use Rattle.riff.specs.Walk.{directoryOf}
 use Rattle.formats.specs.Format.{formatForm, formatRule}
-use Rattle.formats.specs.Frames.{wholeBlocks, factForm, framesRule}
+use Rattle.formats.specs.Frames.{wholeBlocks, factForm, framesRule, Sounding}
 use Rattle.rules.specs.declared.Record.{Record}
 use Rattle.rules.specs.declared.Reading.{Reading}
 use Rattle.rules.specs.Rules.{fine, formatFine, factFine, cuesFine, playsFine, verdictOf}
 use Rattle.reader.specs.Content.{Content, refused, holds, taken, formatPart, soundPart, soundSize, factPart, cuePart, playlistPart, recordAt, verdictAt, contentAt, contentIn, contentOf, reading, soundIn}
 use Rattle.reader.proofs.Demands.{tied}
-
--- the rule of 9, whole blocks, and the count of 11
-pub record Kept (m : Record) (w : List ℕ) : Type 0 where
-  pub rule : formatRule (m .format) ≡ true
-  pub whole : wholeBlocks (m .format) (record { 0 = length w }) ≡ true
-  pub count : framesRule (m .format) (record { 0 = length w }) (m .frames) ≡ true
 
 both : (a b : Bool) → fine a b ≡ true → b ≡ true
 unfolding fine
@@ -36,7 +30,7 @@ both true b e = e
 both false b e = absurd (subst (λ (x : Bool). cond x ⊥ (Unit {0})) e tt)
 
 kept-by : (fmt : List ℕ) (n : BytePlace) (fact cue plst : List ℕ) (m : Record) (w : List ℕ) → n ≡ record { 0 = length w }
-    → verdictOf fmt n fact cue plst m ≡ Accepted → Kept m w
+    → verdictOf fmt n fact cue plst m ≡ Accepted → Sounding (m .format) (m .frames) w
 unfolding verdictOf
 kept-by fmt n fact cue plst m w k e =
     let x : Verdict = demand (playsFine plst (m .playlist) (m .cues) (m .frames)) PlaylistWrong Accepted in
@@ -54,13 +48,13 @@ kept-by fmt n fact cue plst m w k e =
 
 abbrev KeptIn : Content → Type 0
 KeptIn (refused r) = Unit {0}
-KeptIn (holds m w) = Kept m w
+KeptIn (holds m w) = Sounding (m .format) (m .frames) w
 
 kept-in : (s : List ℕ) → KeptIn (contentOf s)
 unfolding contentOf contentAt
 kept-in s = by (directoryOf s)
   where
-    taking : (v : Verdict) (m : Record) (w : List ℕ) → (v ≡ Accepted → Kept m w) → KeptIn (taken v m w)
+    taking : (v : Verdict) (m : Record) (w : List ℕ) → (v ≡ Accepted → Sounding (m .format) (m .frames) w) → KeptIn (taken v m w)
     taking Accepted m w f = f refl
     taking (Refused r) m w f = tt
 
@@ -87,5 +81,5 @@ module _ (s : List ℕ) {x : Reading} (e : x ≡ reading s) where
   pub content-taken : {w : List ℕ} → x .verdict ≡ Accepted → w ≡ soundIn s → holds (x .made) w ≡ contentOf s
   content-taken h g = ap (holds (x .made)) g ∙ told h
 
-pub content-kept : (s : List ℕ) {m : Record} {w : List ℕ} → holds m w ≡ contentOf s → Kept m w
+pub content-kept : (s : List ℕ) {m : Record} {w : List ℕ} → holds m w ≡ contentOf s → Sounding (m .format) (m .frames) w
 content-kept s e = subst KeptIn (sym e) (kept-in s)

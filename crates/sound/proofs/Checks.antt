@@ -1,25 +1,24 @@
 -- The checks of decoding, one law for each way out, in the words of the code. Assumes nothing.
-use mathlib.Core.Path.{_≡_, refl, sym, ap, _∙_, subst}
-use mathlib.Core.Bool.{Bool, true, false, not, _&&_}
+use mathlib.Core.Path.{_≡_, sym, ap, _∙_}
+use mathlib.Core.Bool.{Bool, true, false, not}
 use mathlib.Core.List.{List}
 use Prim.Native.Nat.{ℕ, _*_, _≤_, _<_}
 use native.Mathlib.Nat.{mul-le-mul, le-of-lt}
 use native.Mathlib.Omega.{arith}
-use lib.Dec.{T, ltb, eqb, ltb→lt}
+use lib.Dec.{ltb}
 use lib.IntN.{ℤ}
 use mir.Syntax.{w16, w32, w64}
 use mir.Val.{Fits}
-use mir.Facts.{and-yes}
-use borrow.Author.Tests.{not-true, not-false}
+use borrow.Author.Tests.{not-true, not-false, ltb-true}
 use Rattle.little.specs.Writing.{front}
 use Rattle.little.proofs.Tests.{tests}
+use Rattle.lists.proofs.Laws.{and-both}
 use Rattle.units.specs.declared.Refusal.the-variants.{OutputTooSmall, BlockHeaderWrong, NoSuchBlock}
 use Rattle.formats.specs.declared.Format.{Format}
 use Rattle.formats.specs.Frames.{needsFact}
-use Rattle.decoder.specs.Sound.{blockFrames, blockFine, blockCount, blockAt, hasBlock, blockSound, wholeSound, dataFine}
-use Rattle.sound.specs.declared.Decoded.{Decoded}
+use Rattle.decoder.specs.Sound.{blockFrames, blockFine, blockCount, blockAt, hasBlock, blockSound, dataFine}
 use Rattle.sound.specs.declared.Decoded.the-variants.{Frames, Refused}
-use Rattle.sound.specs.Decoding.{wholeVerdict, blockVerdict, answer, holding}
+use Rattle.sound.specs.Decoding.{wholeVerdict, blockVerdict, answer}
 
 -- frames of all channels are counted in 64 bits
 product : {a b : ℕ} → a ≤ 4294967296 → b ≤ 65536 → a * b ≤ 4294967296 * 65536
@@ -56,13 +55,14 @@ pub ruleset whole = (frames-fit, whole-small, whole-wrong, whole-fine, is-fine)
 
 -- ---- whether there is such a block
 module _ (f : Format) (w : List ℕ) (k : ℕ) where
-  pub block-none : f .tag ≡ 1 → false ≡ hasBlock f w k
-  unfolding hasBlock
-  block-none h = simp tests
+  module _ {alone : Bool} (e : alone ≡ needsFact f) where
+    pub block-none : not alone ≡ true → false ≡ hasBlock f w k
+    unfolding hasBlock
+    block-none t = let u : needsFact f ≡ false = sym e ∙ not-true alone t in simp u
 
-  pub block-counted : {n : ℕ} → (f .tag ≡ 1 → ⊥) → n ≡ blockCount f w → ltb k n ≡ hasBlock f w k
-  unfolding hasBlock
-  block-counted h e = simp (tests, e)
+    pub block-counted : {n : ℕ} → not alone ≡ false → n ≡ blockCount f w → ltb k n ≡ hasBlock f w k
+    unfolding hasBlock
+    block-counted t g = let u : needsFact f ≡ true = sym e ∙ not-false alone t in simp (u, g)
 
 pub ruleset counted = (block-none, block-counted)
 
@@ -94,21 +94,15 @@ module _ (f : Format) (w : List ℕ) (k room : ℕ) {there : Bool} (e : there �
 
 -- what a block that is there promises
 module _ (f : Format) (w : List ℕ) (k : ℕ) {there : Bool} (e : there ≡ hasBlock f w k) (t : not there ≡ false) where
-  pub part-counted : k < blockCount f w
+  both : (needsFact f ≡ true) × (ltb k (blockCount f w) ≡ true)
   unfolding hasBlock
-  part-counted = by (eqb (f .tag) 1) (sym e ∙ not-false there t)
-    where
-      by : (x : Bool) → (not x && ltb k (blockCount f w)) ≡ true → k < blockCount f w
-      by true u = absurd (subst (λ (b : Bool). T (not b)) u tt)
-      by false u = ltb→lt k (blockCount f w) (subst T (sym u) tt)
+  both = and-both (needsFact f) (ltb k (blockCount f w)) (sym e ∙ not-false there t)
+
+  pub part-counted : k < blockCount f w
+  part-counted = ltb-true k (blockCount f w) (both .1)
 
   pub part-adpcm : needsFact f ≡ true
-  unfolding hasBlock needsFact
-  part-adpcm = by (eqb (f .tag) 1) (sym e ∙ not-false there t)
-    where
-      by : (x : Bool) → (not x && ltb k (blockCount f w)) ≡ true → not x ≡ true
-      by true u = u
-      by false u = refl
+  part-adpcm = both .0
 
 pub part-sound : (f : Format) (w : List ℕ) (k : ℕ) (d : List ℤ) {b : List ℕ} {out : List ℤ}
     → b ≡ blockAt f w k → out ≡ front (blockFrames f (f .samples) b) d → out ≡ front (blockSound f w k) d

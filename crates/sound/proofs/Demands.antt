@@ -1,11 +1,11 @@
 -- What decoding promises besides its definition: each by the cases of what a file holds. Assumes nothing.
-use mathlib.Core.Path.{_≡_, refl, sym, ap, _∙_}
-use mathlib.Core.Bool.{true, not, cond}
-use mathlib.Core.List.{List}
-use Prim.Native.Nat.{ℕ, _-_, _*_, _<_}
+use mathlib.Core.Path.{_≡_, refl, sym, _∙_}
+use mathlib.Core.Bool.{true, false, not, cond}
+use mathlib.Core.List.{List, [], map}
+use Prim.Native.Nat.{ℕ, _-_, _*_, _≤_, _<_}
+use native.Mathlib.Nat.{div-le-self}
 use native.Mathlib.Omega.{arith}
-use lib.Dec.{leb}
-use lib.IntN.{ℤ}
+use lib.Dec.{leb, eqb}
 use lib.ListN.{length, take, drop}
 use Rattle.units.specs.declared.Frames as units
 use Rattle.units.specs.declared.Refusal.the-variants.{OutputTooSmall, BlockHeaderWrong, NoSuchBlock}
@@ -13,73 +13,123 @@ use Rattle.units.specs.declared.Verdict.{Verdict}
 use Rattle.units.specs.declared.Verdict.the-variants as verdict
 use Rattle.units.specs.Refusals.{verdictNumber, demand}
 use Rattle.units.proofs.Laws.{demand-row, demand-met}
+use borrow.Author.Tests.{leb-true}
+use Rattle.samples.specs.Sound.{samplesIn, eight}
 use Rattle.formats.specs.declared.Format.{Format}
+use Rattle.formats.specs.Frames.{needsFact, blocksIn, Sounding}
+use Rattle.formats.proofs.Taken.{by-eqb, frames-begun, wanted-tag}
+use Rattle.rules.specs.Rules.{blank}
 use Rattle.reader.specs.Content.{Content, refused, holds, contentOf, readingOf, soundOf, reading, soundIn}
 use Rattle.reader.proofs.Kept.{content-kept}
-use Rattle.decoder.specs.Sound.{blockFine, blockCount, blockAt, hasBlock, dataFine}
+use Rattle.decoder.specs.Sound.{blockFine, blockCount, blockAt, hasBlock, wholeSound, dataFine}
+use Rattle.decoder.proofs.Pcm.{eight-whole, sixteen-whole}
 use Rattle.decoder.proofs.Whole.{whole-long, block-long, block-of-whole}
-use Rattle.sound.specs.declared.Decoded.{Decoded}
 use Rattle.sound.specs.declared.Decoded.the-variants.{Frames, Refused}
-use Rattle.sound.specs.Decoding.{wholeVerdict, blockVerdict, answer, wholeAnswer, blockAnswer, decoding, blockDecoding, wholeIn, blockIn, fileSound, fileBlock, decodedNumber}
-use Rattle.sound.specs.Demands.{Sized, BlockSized, OneOfAll, Numbered, BlockNumbered, readersOr}
-use Rattle.sound.proofs.Checks.{part-counted}
-use Rattle.sound.proofs.Files.{sounding-kept}
+use Rattle.sound.specs.Decoding.{wholeVerdict, blockVerdict, answer, wholeAnswer, blockAnswer, decoding, blockDecoding, wholeIn, blockIn, fileSound, fileBlock, decodedFrames, decodedNumber}
+use Rattle.sound.specs.Demands.{Told, WholeTold, BlockTold, OneOfAll, PcmSound, Numbered, BlockNumbered, readersOr}
+use Rattle.sound.proofs.Checks.{part-counted, part-adpcm}
 
 -- ---- an answer that is frames
-abbrev framesOf : Decoded → ℕ
-framesOf (Frames n) = n .0
-framesOf (Refused r) = 0
-
-frames-are : (v : Verdict) (k : ℕ) (n : units.Frames) → answer v k ≡ Frames n → (v ≡ verdict.Accepted) × (n .0 ≡ k)
-frames-are verdict.Accepted k n e = (refl, sym (ap framesOf e))
+frames-are : (v : Verdict) (k : ℕ) (n : units.Frames) → answer v k ≡ Frames n
+    → (v ≡ verdict.Accepted) × (decodedFrames (answer v k) ≡ k)
+frames-are verdict.Accepted k n e = (refl, refl)
 frames-are (verdict.Refused r) k n e = let z : _≡_ {A = ℕ} 0 1 = cc in absurd (omega arith)
 
-there-is : (f : Format) (w : List ℕ) (k room : ℕ) → blockVerdict f w k room ≡ verdict.Accepted → k < blockCount f w
-unfolding blockVerdict
-there-is f w k room e =
-    let x : Verdict = demand (blockFine f (blockAt f w k)) BlockHeaderWrong verdict.Accepted in
-    let y : Verdict = demand (leb (f .samples * f .channels) room) OutputTooSmall x in
-    let p = demand-met (hasBlock f w k) NoSuchBlock y e in
-    part-counted f w k {there = true} (sym (p .0)) refl
+-- ---- a verdict that is taken: there is room, and there is such a block
+room-is : (f : Format) (n : ℕ) (w : List ℕ) (room : ℕ) → wholeVerdict f n w room ≡ verdict.Accepted → n * f .channels ≤ room
+unfolding wholeVerdict
+room-is f n w room e =
+    let x : Verdict = demand (dataFine f w) BlockHeaderWrong verdict.Accepted in
+    leb-true (n * f .channels) room (demand-met (leb (n * f .channels) room) OutputTooSmall x e .0)
 
--- ---- as many samples as are told
-pub sized : (s : List ℕ) → Sized s
+module _ (f : Format) (w : List ℕ) (k room : ℕ) (e : blockVerdict f w k room ≡ verdict.Accepted) where
+  met : (hasBlock f w k ≡ true) × (leb (f .samples * f .channels) room ≡ true)
+  unfolding blockVerdict
+  met =
+      let x : Verdict = demand (blockFine f (blockAt f w k)) BlockHeaderWrong verdict.Accepted in
+      let y : Verdict = demand (leb (f .samples * f .channels) room) OutputTooSmall x in
+      let p = demand-met (hasBlock f w k) NoSuchBlock y e in
+      (p .0, demand-met (leb (f .samples * f .channels) room) OutputTooSmall x (p .1) .0)
+
+  there-is : k < blockCount f w
+  there-is = part-counted f w k {there = true} (sym (met .0)) refl
+
+-- ---- what is told is put out
+pub whole-told : (s : List ℕ) → WholeTold s
 unfolding decoding fileSound reading
-sized s room n = by (contentOf s) refl
+whole-told s room n = by (contentOf s) refl
   where
-    by : (c : Content) → c ≡ contentOf s → wholeAnswer c room ≡ Frames n → length (wholeIn c) ≡ n .0 * readingOf c .made .format .channels
+    by : (c : Content) → c ≡ contentOf s → wholeAnswer c room ≡ Frames n
+        → Told (wholeAnswer c room) (wholeIn c) (readingOf c .made .frames .0) (readingOf c .made .format .channels) room
     by (refused r) e h = let z : _≡_ {A = ℕ} 0 1 = cc in absurd (omega arith)
     by (holds m w) e h =
-        let p = frames-are (wholeVerdict (m .format) (m .frames .0) w room) (m .frames .0) n h in
-        whole-long (sounding-kept (content-kept s e))
-        ∙ ap (λ (k : ℕ). k * m .format .channels) (sym (p .1))
+        let v : Verdict = wholeVerdict (m .format) (m .frames .0) w room in
+        let p = frames-are v (m .frames .0) n h in
+        let l = whole-long (content-kept s e) in
+        record { frames = p .1; long = l; room = omega (arith, l, room-is (m .format) (m .frames .0) w room (p .0)) }
 
-pub block-sized : (s : List ℕ) → BlockSized s
+pub block-told : (s : List ℕ) → BlockTold s
 unfolding blockDecoding fileBlock reading
-block-sized s k room n = by (contentOf s) refl
+block-told s k room n = by (contentOf s) refl
   where
-    by : (c : Content) → c ≡ contentOf s → blockAnswer c k room ≡ Frames n → length (blockIn c k) ≡ n .0 * readingOf c .made .format .channels
+    by : (c : Content) → c ≡ contentOf s → blockAnswer c k room ≡ Frames n
+        → Told (blockAnswer c k room) (blockIn c k) (readingOf c .made .format .samples) (readingOf c .made .format .channels) room
     by (refused r) e h = let z : _≡_ {A = ℕ} 0 1 = cc in absurd (omega arith)
     by (holds m w) e h =
-        let p = frames-are (blockVerdict (m .format) w k room) (m .format .samples) n h in
-        block-long (m .format) w k (content-kept s e .rule) (there-is (m .format) w k room (p .0))
-        ∙ ap (λ (k : ℕ). k * m .format .channels) (sym (p .1))
+        let f : Format = m .format in
+        let p = frames-are (blockVerdict f w k room) (f .samples) n h in
+        let l = block-long f w k (content-kept s e .rule) (there-is f w k room (p .0)) in
+        record {
+          frames = p .1;
+          long = l;
+          room = omega (arith, l, leb-true (f .samples * f .channels) room (met f w k room (p .0) .1));
+        }
+
+-- ---- the record of a refused file is all zero: it has no blocks, and is not PCM
+none : (k : ℕ) → hasBlock (blank .format) [] k ≡ true → ⊥
+unfolding blockCount blocksIn
+none k e = omega (arith, part-counted (blank .format) [] k {there = true} (sym e) refl, div-le-self 0 0)
+
+some-fact : needsFact (blank .format) ≡ false → ⊥
+unfolding needsFact
+some-fact e = let z : _≡_ {A = ℕ} 0 1 = cc in absurd (omega arith)
+
+begun-is : (f : Format) (n : units.Frames) (w : List ℕ) (k : ℕ) → Sounding f n w → needsFact f ≡ true → k < blockCount f w
+    → k * f .samples < n .0
+unfolding blockCount
+begun-is f n w k q a g = frames-begun f (record { 0 = length w }) n (q .count) k (wanted-tag f a) g
 
 -- ---- a block is its part of the whole
 pub one-of-all : (s : List ℕ) → OneOfAll s
-unfolding decoding blockDecoding fileSound fileBlock reading
-one-of-all s k room blockRoom whole each = by (contentOf s) refl
+unfolding fileSound fileBlock reading soundIn
+one-of-all s k h = let p = by (contentOf s) refl h in record { begun = p .0; same = p .1 }
   where
-    by : (c : Content) → c ≡ contentOf s → wholeAnswer c room ≡ Frames whole → blockAnswer c k blockRoom ≡ Frames each
-        → take (each .0 * readingOf c .made .format .channels) (drop (k * (each .0 * readingOf c .made .format .channels)) (wholeIn c))
-        ≡ take ((whole .0 - k * each .0) * readingOf c .made .format .channels) (blockIn c k)
-    by (refused r) e h g = let z : _≡_ {A = ℕ} 0 1 = cc in absurd (omega arith)
-    by (holds m w) e h g =
+    by : (c : Content) → c ≡ contentOf s → hasBlock (readingOf c .made .format) (soundOf c) k ≡ true
+        → (k * readingOf c .made .format .samples < readingOf c .made .frames .0)
+        × (take (readingOf c .made .format .samples * readingOf c .made .format .channels)
+        (drop (k * (readingOf c .made .format .samples * readingOf c .made .format .channels)) (wholeIn c))
+        ≡ take ((readingOf c .made .frames .0 - k * readingOf c .made .format .samples) * readingOf c .made .format .channels) (blockIn c k))
+    by (refused r) e h = absurd (none k h)
+    by (holds m w) e h =
+        let q = content-kept s e in
+        let g = part-counted (m .format) w k {there = true} (sym h) refl in
+        let a = part-adpcm (m .format) w k {there = true} (sym h) refl in
+        (begun-is (m .format) (m .frames) w k q a g, block-of-whole q k g)
+
+-- ---- PCM in one go
+pub pcm-sound : (s : List ℕ) → PcmSound s
+unfolding fileSound reading soundIn
+pcm-sound s h = by (contentOf s) refl h
+  where
+    by : (c : Content) → c ≡ contentOf s → needsFact (readingOf c .made .format) ≡ false
+        → wholeIn c ≡ cond (eqb (readingOf c .made .format .bits) 8) (map eight (soundOf c)) (samplesIn (soundOf c))
+    by (refused r) e h = absurd (some-fact h)
+    by (holds m w) e h =
+        let q = content-kept s e in
         let f : Format = m .format in
-        let p = frames-are (wholeVerdict f (m .frames .0) w room) (m .frames .0) whole h in
-        let q = frames-are (blockVerdict f w k blockRoom) (f .samples) each g in
-        rw (p .1, q .1)
-        (block-of-whole (sounding-kept (content-kept s e)) k (there-is f w k blockRoom (q .0)))
+        by-eqb (f .bits) 8 (λ b. wholeSound f (m .frames .0) w ≡ cond b (map eight w) (samplesIn w))
+        (λ t. eight-whole f (m .frames) w q h t)
+        (λ t. sixteen-whole f (m .frames) w q h t)
 
 -- ---- the numbers: each demand is a row
 answer-number : (v : Verdict) (n : ℕ) → decodedNumber (answer v n) ≡ verdictNumber v

@@ -1,5 +1,5 @@
 -- Decoding a file: reading's refusals first, and else the checks on the sound data that it hands out. Assumes nothing.
-use mathlib.Core.Path.{_≡_, refl, sym, ap, _∙_}
+use mathlib.Core.Path.{_≡_, ap, _∙_}
 use mathlib.Core.Bool.{true}
 use mathlib.Core.List.{List, []}
 use Prim.Native.Nat.{ℕ}
@@ -7,20 +7,17 @@ use lib.IntN.{ℤ}
 use Rattle.units.specs.declared.Refusal.{Refusal}
 use Rattle.units.specs.declared.Verdict.the-variants as verdict
 use Rattle.formats.specs.Format.{formatRule}
+use Rattle.formats.specs.Frames.{Sounding}
 use Rattle.riff.specs.declared.Spot.{Spot}
 use Rattle.riff.specs.Walk.{partOf}
-use Rattle.rules.specs.declared.Record.{Record}
 use Rattle.rules.specs.declared.Reading.{Reading}
-use Rattle.reader.specs.Content.{Content, refused, holds, contentOf, reading, soundSpot}
+use Rattle.reader.specs.Content.{Content, holds, contentOf, reading, soundSpot}
 use Rattle.reader.proofs.Demands.{sound-placed}
-use Rattle.reader.proofs.Kept.{Kept, content-refused, content-taken, content-kept}
-use Rattle.decoder.specs.Sound.{blockSound, wholeSound, Sounding}
+use Rattle.reader.proofs.Kept.{content-refused, content-taken, content-kept}
+use Rattle.decoder.specs.Sound.{blockSound, wholeSound}
 use Rattle.sound.specs.declared.Decoded.{Decoded}
 use Rattle.sound.specs.declared.Decoded.the-variants.{Refused}
 use Rattle.sound.specs.Decoding.{wholeVerdict, blockVerdict, answer, wholeAnswer, blockAnswer, decoding, blockDecoding, wholeIn, blockIn, fileSound, fileBlock, holding}
-
-pub sounding-kept : {m : Record} {w : List ℕ} → Kept m w → Sounding (m .format) (m .frames) w
-sounding-kept k = record { rule = k .rule; whole = k .whole; count = k .count }
 
 module _ (s : List ℕ) {x : Reading} (e : x ≡ reading s) where
   module _ {r : Refusal} (h : x .verdict ≡ verdict.Refused r) where
@@ -37,7 +34,7 @@ module _ (s : List ℕ) {x : Reading} (e : x ≡ reading s) where
     content = content-taken s e h (sound-placed s f g)
 
     pub file-sounding : Sounding (x .made .format) (x .made .frames) w
-    file-sounding = sounding-kept (content-kept s content)
+    file-sounding = content-kept s content
 
     pub file-taken : (room : ℕ) {a : Decoded}
         → a ≡ answer (wholeVerdict (x .made .format) (x .made .frames .0) w room) (x .made .frames .0) → a ≡ decoding s room

@@ -4,7 +4,6 @@ use mathlib.Core.List.{List, []}
 use lib.Dec.{leb}
 use lib.IntN.{ℤ}
 use Rattle.little.specs.Writing.{front}
-use Rattle.units.specs.declared.Frames as units
 use Rattle.units.specs.declared.Refusal.the-variants.{OutputTooSmall, BlockHeaderWrong, NoSuchBlock}
 use Rattle.units.specs.declared.Verdict.{Verdict}
 use Rattle.units.specs.declared.Verdict.the-variants.{Accepted}
@@ -57,6 +56,7 @@ blockDecoding s k room = blockAnswer (contentOf s) k room
 
 -- ---- the sound
 
+-- of what a file holds
 abbrev pub wholeIn : Content → List ℤ
 wholeIn (refused r) = []
 wholeIn (holds m w) = wholeSound (m .format) (m .frames .0) w
@@ -78,6 +78,11 @@ fileBlock s k = blockIn (contentOf s) k
 abbrev pub holding : Decoded → List ℤ → List ℤ → List ℤ
 holding (Frames n) sound d = front sound d
 holding (Refused r) sound d = d
+
+-- how many frames an answer tells; a refusal tells none
+abbrev pub decodedFrames : Decoded → ℕ
+decodedFrames (Frames n) = n .0
+decodedFrames (Refused r) = 0
 
 -- the number of an answer: 0 where the sound is put out
 abbrev pub decodedNumber : Decoded → ℕ

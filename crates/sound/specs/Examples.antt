@@ -3,10 +3,12 @@ use Prim.Native.Nat.{ℕ}
 use mathlib.Core.Path.{_≡_}
 use mathlib.Core.List.{List, [], _∷_, _++_, map}
 use lib.IntN.{ℤ, pos, negsuc}
+use Rattle.units.specs.Refusals.{verdictNumber}
 use Rattle.formats.specs.declared.Format.{Format}
 use Rattle.ima.specs.Examples.{Example}
 use Rattle.ima.specs.Examples as ima
 use Rattle.decoder.specs.Sound.{blockSound, wholeSound}
+use Rattle.sound.specs.Decoding.{blockVerdict}
 
 -- a mono format
 unfoldable pub mono : ℕ → ℕ → ℕ → ℕ → Format
@@ -20,11 +22,18 @@ microsoft block = blockSound (mono 2 4 8 4) block 0
 unfoldable pub eights : ℕ → List ℕ → List ℤ
 eights n bytes = wholeSound (mono 1 8 1 1) n bytes
 
--- Microsoft and 8-bit PCM
+-- the number of decoding an IMA block of 8 bytes, which has 9 samples, whose header holds an index
+unfoldable pub headed : ℕ → List ℤ
+headed i = pos (verdictNumber (blockVerdict (mono 17 4 8 9) (0 ∷ 0 ∷ i ∷ 0 ∷ 0 ∷ 0 ∷ 0 ∷ 0 ∷ []) 0 9)) ∷ []
+
+-- decoding
 unfoldable pub decodings : List Example
 decodings =
+    -- index 88 read, 89 is 15
+    record { given = headed 88; printed = pos 0 ∷ [] }
+    ∷ record { given = headed 89; printed = pos 15 ∷ [] }
     -- Microsoft 00 10 00 64 00 32 00 1F gives 50, 100, 116, 100
-    record {
+    ∷ record {
       given = microsoft (0 ∷ 16 ∷ 0 ∷ 100 ∷ 0 ∷ 50 ∷ 0 ∷ 31 ∷ []);
       printed = pos 50 ∷ pos 100 ∷ pos 116 ∷ pos 100 ∷ [];
     }
@@ -37,7 +46,7 @@ decodings =
     ∷ record { given = eights 3 (0 ∷ 128 ∷ 255 ∷ []); printed = negsuc 32767 ∷ pos 0 ∷ pos 32512 ∷ [] }
     ∷ []
 
--- with those of IMA
+-- with those of coding
 unfoldable pub examples : List Example
 examples = ima.examples ++ decodings
 

@@ -2,7 +2,6 @@
 //
 // All checks come before the first store, so that a refusal leaves the lent buffer as it was.
 use formats::Format;
-use formats::PCM;
 use units::Frames;
 use units::Refusal;
 use units::Verdict;
@@ -11,10 +10,11 @@ ghost use mathlib.Core.Bool.{true};
 ghost use Prim.Native.Nat.{_<_};
 ghost use lib.ListN.{length};
 ghost use Rattle.formats.specs.Format.{formatRule};
-ghost use Rattle.decoder.specs.Sound.{hasBlock, blockSound, wholeSound, Sounding};
+ghost use Rattle.formats.specs.Frames.{Sounding};
+ghost use Rattle.decoder.specs.Sound.{hasBlock, blockSound, wholeSound};
 ghost use Rattle.sound.specs.Decoding.{wholeVerdict, blockVerdict, answer, decoding, blockDecoding, fileSound, fileBlock, holding};
 
-// The answer of decoding: how many frames were put out.
+// The answer of decoding: how many frames were put out, or the refusal.
 pub enum Decoded {
     Frames(Frames),
     Refused(Refusal),
@@ -42,7 +42,8 @@ fn has_block(format: Format, bytes: &[u8], block: usize) -> bool
     requires { ⌜ formatRule format ≡ true ⌝ }
     ensures { λ r. ⌜ r ≡ hasBlock format (now (bytes .entry)) block ⌝ }
 {
-    if format.tag == PCM {
+    let alone = formats::needs_fact(format);
+    if !alone {
         return false;
     }
     block < decoder::block_count(format, bytes)

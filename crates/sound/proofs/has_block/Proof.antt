@@ -1,4 +1,4 @@
--- PCM has no block; else the blocks are counted.
+-- PCM has no block to decode alone; else the blocks are counted.
 use Rattle.sound.proofs.Checks.{counted}
 use borrow.Author.Needs.{needs}
 use Rattle.sound.proofs.has_block.Statement.{statement}
@@ -7,4 +7,5 @@ use Rattle.sound.proofs.has_block.Tie as tie
 pub has-block-spec : {M : Type 1} → statement M
 has-block-spec =
     tie.close
-    (tie.spec (λ c. search (needs, counted)) (λ c κs. search needs) (λ c. search (needs, counted)))
+    (tie.spec (λ c κs. search needs) (λ c. search (needs, counted)) (λ c κs. search needs)
+    (λ c. search (needs, counted)))
