@@ -3,7 +3,7 @@
 use mathlib.Core.Path.{_≡_, refl, sym, ap, _∙_}
 use mathlib.Core.Bool.{false, cond}
 use mathlib.Core.List.{List, [], _∷_, _++_, map, map-append}
-use Prim.Native.Nat.{ℕ, zero, suc, _+_, _*_, _/_, _%_, _≤_, _<_}
+use Prim.Native.Nat.{ℕ, zero, suc, _+_, _*_, _/_, _≤_, _<_}
 use native.Mathlib.Nat.{zero-add, add-mul, zero-mul, suc-mul, mul-left-comm}
 use native.Mathlib.Omega.{arith}
 use lib.Dec.{eqb}
@@ -11,12 +11,12 @@ use lib.IntN.{ℤ}
 use lib.ListN.{length, take, drop, getD, length-map, take-append-drop, drop-of-length-le}
 use lib.Seq.{drop-drop, take-all}
 use borrow.Author.Tests.{ne-eqb}
-use Rattle.little.specs.Numbers.{numberIn, numberAt}
+use Rattle.little.specs.Numbers.{numberAt}
 use Rattle.little.specs.Writing.{front}
 use Rattle.little.proofs.Filling.{part-long}
 use Rattle.lists.specs.Turns.{values, joined, inTurn}
-use Rattle.samples.specs.Sound.{signedOf, sampleAt, samplesIn, eight}
-use Rattle.samples.proofs.Turning.{length-samples}
+use Rattle.samples.specs.Sound.{sampleAt, samplesIn, eight}
+use Rattle.samples.proofs.Turning.{length-samples, samples-more}
 use Rattle.units.specs.declared.Frames.{Frames}
 use Rattle.formats.specs.declared.Format.{Format}
 use Rattle.formats.specs.Frames.{needsFact, Sounding}
@@ -72,14 +72,6 @@ sixteen-frame (suc (suc zero)) (x ∷ y ∷ z ∷ []) l u e = absurd (omega arit
 sixteen-frame (suc (suc zero)) (x ∷ y ∷ z ∷ v ∷ []) l u e = refl
 sixteen-frame (suc (suc zero)) (x ∷ y ∷ z ∷ v ∷ a ∷ b) l u e = absurd (omega arith)
 sixteen-frame (suc (suc (suc c))) b l u e = absurd (omega arith)
-
--- ---- one frame behind another
-pub samples-more : (xs ys : List ℕ) → length xs % 2 ≡ 0 → samplesIn (xs ++ ys) ≡ samplesIn xs ++ samplesIn ys
-unfolding samplesIn
-samples-more [] ys e = refl
-samples-more (x ∷ []) ys e = absurd (omega arith)
-samples-more (x ∷ y ∷ xs) ys e =
-    ap (λ (l : List ℤ). signedOf (numberIn (x ∷ y ∷ [])) ∷ l) (samples-more xs ys (omega arith))
 
 -- ---- the frames of PCM data
 module _ (f : Format) (frames : Frames) (w : List ℕ) (q : Sounding f frames w) (z : needsFact f ≡ false) where

@@ -1,20 +1,21 @@
 -- Laws of the loops that turn bytes into samples and samples into bytes: how many there are, which one is next, and that every turn
 -- writes it. Assumes nothing.
-use mathlib.Core.Path.{_≡_, refl, sym, _∙_, ap}
-use mathlib.Core.List.{List, [], _∷_, _++_, map}
-use Prim.Native.Nat.{ℕ, zero, suc, _+_, _*_, _/_, _≤_, _<_}
+use mathlib.Core.Path.{_≡_, refl, sym, _∙_, ap, subst}
+use mathlib.Core.List.{List, [], _∷_, _++_, map, append-nil}
+use Prim.Native.Nat.{ℕ, zero, suc, _+_, _-_, _*_, _/_, _%_, _≤_, _<_}
+use native.Mathlib.Nat.{le-refl}
 use native.Mathlib.Omega.{arith}
 use lib.IntN.{ℤ, pos}
-use lib.Seq.{drop-nil, drop-append-add}
-use lib.ListN.{length, drop, getD, set, length-map, List·getD-map, length-append}
+use lib.Seq.{take-add, drop-nil, drop-cons, drop-drop, drop-append-add}
+use lib.ListN.{length, take, drop, getD, set, length-map, List·getD-map, length-append, length-drop, take-append-drop, drop-of-length-le}
 use mir.Syntax.{w16}
 use mir.Val.{SFits}
 use mir.Facts.{toZ-ofZ}
-use Rattle.little.specs.Numbers.{numberAt}
-use Rattle.little.specs.Writing.{Put, front}
-use Rattle.little.proofs.Filling.{Written, drop-next, front-begins, front-room, front-next, front-piece, front-ends}
+use Rattle.little.specs.Numbers.{numberIn, numberAt}
+use Rattle.little.specs.Writing.{Put, writeAt, front}
+use Rattle.little.proofs.Filling.{Filled, Written, filled-none, filled-store, filled-put, put-next, four-stores, part-long, drop-next, front-begins, front-room, front-next, front-piece, front-ends}
 use Rattle.little.proofs.Reading.{length-bytes}
-use Rattle.samples.specs.Sound.{bitsOf, sampleAt, sampleBytes, samplesIn, soundBytes, eight}
+use Rattle.samples.specs.Sound.{signedOf, bitsOf, sampleAt, sampleBytes, samplesIn, soundBytes, eight}
 use Rattle.samples.proofs.Signed.{back}
 
 -- a sample v that is the next element of ys is stored: the machine reads it back as it is
@@ -45,6 +46,12 @@ length-samples [] = refl
 length-samples (a ∷ []) = refl
 length-samples (a ∷ b ∷ s) = omega (arith, length-samples s)
 
+pub samples-more : (xs ys : List ℕ) → length xs % 2 ≡ 0 → samplesIn (xs ++ ys) ≡ samplesIn xs ++ samplesIn ys
+unfolding samplesIn
+samples-more [] ys e = refl
+samples-more (x ∷ []) ys e = absurd (omega arith)
+samples-more (x ∷ y ∷ xs) ys e = ap (λ (l : List ℤ). signedOf (numberIn (x ∷ y ∷ [])) ∷ l) (samples-more xs ys (omega arith))
+
 pub samples-at : (s : List ℕ) (i : ℕ) → i < length s / 2 → getD (samplesIn s) i (pos 0) ≡ sampleAt s (2 * i)
 unfolding samplesIn sampleAt numberAt
 samples-at [] i h = absurd (omega arith)
@@ -57,17 +64,122 @@ samples-at (a ∷ b ∷ s) (suc i) h =
 pub pcm-begins : (s : List ℕ) {out : List ℤ} → length s / 2 ≤ length out → Written (samplesIn s) 0 0 out out
 pcm-begins s h = front-begins (omega (arith, length-samples s))
 
+-- all samples up to i are there: 32 more, and in the end the rest
 module _ (s : List ℕ) {out out₀ : List ℤ} {i : ℕ} (w : Written (samplesIn s) 0 i out out₀) where
-  pub pcm-room : i < length s / 2 → i < length out
-  pcm-room h = front-room w (omega (arith, length-samples s))
+  pub pcm-upto : i ≤ length s / 2
+  pcm-upto = omega (arith, w .upto, length-samples s)
 
-  pub pcm-next : {v : ℤ} → SFits w16 v → v ≡ sampleAt s (2 * i) → i < length s / 2 → Written (samplesIn s) 0 (i + 1) (set out i (back w16 v)) out₀
-  pcm-next f e h = store-next w (omega (arith, length-samples s)) f (pos 0) (e ∙ sym (samples-at s i h))
+  pub pcm-room : length s / 2 ≤ length out
+  pcm-room = omega (arith, w .room, w .filled .long, length-samples s)
 
-  pub pcm-ends : length s / 2 ≤ i → out ≡ front (samplesIn s) out₀
-  pcm-ends h = front-ends w (omega (arith, length-samples s))
+  pub pcm-more : {e : List ℤ} → 32 ≤ length s / 2 - i → Put out i (take 32 (drop i (samplesIn s))) e → Written (samplesIn s) 0 (i + 32) e out₀
+  pcm-more h p =
+      let rest : List ℤ = drop i (samplesIn s) in
+      front-piece w p
+      (sym (take-append-drop 32 rest) ∙ ap (λ (m : List ℤ). take 32 rest ++ m) (drop-drop 32 i (samplesIn s)))
+      (omega (arith, part-long (samplesIn s) i 32 (omega (arith, length-samples s))))
+      (omega (arith, length-samples s))
 
-pub ruleset pcm-turning = (pcm-begins, pcm-room, pcm-next, pcm-ends)
+  pub pcm-ends : {e : List ℤ} → Put out i (drop i (samplesIn s)) e → e ≡ front (samplesIn s) out₀
+  pcm-ends p =
+      let ys : List ℤ = samplesIn s in
+      front-ends
+      (front-piece w p
+      (sym (append-nil (drop i ys)) ∙ ap (λ (m : List ℤ). drop i ys ++ m) (sym (drop-of-length-le ys (le-refl (length ys)))))
+      (omega (arith, length-drop i ys, w .upto))
+      (le-refl (length ys)))
+      (le-refl (length ys))
+
+pub ruleset pcm-turning = (pcm-begins, pcm-upto, pcm-room, pcm-more, pcm-ends)
+
+-- four samples in a row: read as the four from i on, and put as they stand
+samples-four : (s : List ℕ) (i : ℕ) → i + 4 ≤ length s / 2
+    → take 4 (drop i (samplesIn s)) ≡ sampleAt s (2 * i) ∷ sampleAt s (2 * i + 2) ∷ sampleAt s (2 * i + 4) ∷ sampleAt s (2 * i + 6) ∷ []
+samples-four s i h =
+    let l = length-samples s in
+    let next : (k : ℕ) → k < i + 4 → drop k (samplesIn s) ≡ sampleAt s (2 * k) ∷ drop (suc k) (samplesIn s) =
+    λ k b. drop-cons (samplesIn s) k (pos 0) (omega arith) ∙ ap (λ (z : ℤ). z ∷ drop (suc k) (samplesIn s)) (samples-at s k (omega arith)) in
+    let b : 2 * suc i ≡ 2 * i + 2 = omega arith in
+    let c : 2 * suc (suc i) ≡ 2 * i + 4 = omega arith in
+    let d : 2 * suc (suc (suc i)) ≡ 2 * i + 6 = omega arith in
+    rw (next i (omega arith), next (suc i) (omega arith), next (suc (suc i)) (omega arith), next (suc (suc (suc i))) (omega arith), b, c, d) refl
+
+module _ {a b c d : ℤ} (f : SFits w16 a) (g : SFits w16 b) (h : SFits w16 c) (k : SFits w16 d) where
+  four-back : _≡_ {A = List ℤ} (back w16 a ∷ back w16 b ∷ back w16 c ∷ back w16 d ∷ []) (a ∷ b ∷ c ∷ d ∷ [])
+  four-back = λ i. toZ-ofZ f i ∷ toZ-ofZ g i ∷ toZ-ofZ h i ∷ toZ-ofZ k i ∷ []
+
+  pub four-read : (s : List ℕ) (i : ℕ) → i + 4 ≤ length s / 2
+      → a ≡ sampleAt s (2 * i) → b ≡ sampleAt s (2 * i + 2) → c ≡ sampleAt s (2 * i + 4) → d ≡ sampleAt s (2 * i + 6)
+      → back w16 a ∷ back w16 b ∷ back w16 c ∷ back w16 d ∷ [] ≡ take 4 (drop i (samplesIn s))
+  four-read s i r p q t u = four-back ∙ (λ j. p j ∷ q j ∷ t j ∷ u j ∷ []) ∙ sym (samples-four s i r)
+
+  pub four-put : {out : List ℤ} {at : ℕ} → at + 4 ≤ length out
+      → Put out at (a ∷ b ∷ c ∷ d ∷ []) (set (set (set (set out at (back w16 a)) (at + 1) (back w16 b)) (at + 2) (back w16 c)) (at + 3) (back w16 d))
+  four-put {out} {at} r = record { same = four-stores r .same ∙ ap (writeAt out at) four-back }
+
+-- of samples ys, m from i on and n from j on, behind them, are put: m + n from i on
+module _ (ys : List ℤ) {out e g : List ℤ} (i j m n : ℕ) where
+  parts-put : Put out i (take m (drop i ys)) e → Put e j (take n (drop j ys)) g
+      → j ≡ i + m → j + n ≤ length ys → j + n ≤ length out → Put out i (take (m + n) (drop i ys)) g
+  parts-put p q b h r =
+      subst (λ (l : List ℤ). Put out i l g)
+      (ap (λ (k : ℕ). take m (drop i ys) ++ take n (drop k ys)) b
+      ∙ ap (λ (l : List ℤ). take m (drop i ys) ++ take n l) (sym (drop-drop m i ys))
+      ∙ sym (take-add m n (drop i ys)))
+      (put-next p q
+      (omega (arith, part-long ys i m (omega arith)))
+      (omega (arith, part-long ys j n h)))
+
+module _ (s : List ℕ) (i : ℕ) {out a b : List ℤ} where
+  pub twice-four : {x y : List ℤ} → x ≡ take 4 (drop i (samplesIn s)) → y ≡ take 4 (drop (i + 4) (samplesIn s))
+      → Put out i x a → Put a (i + 4) y b → i + 8 ≤ length s / 2 → i + 8 ≤ length out → Put out i (take 8 (drop i (samplesIn s))) b
+  twice-four d e p q h r =
+      parts-put (samplesIn s) i (i + 4) 4 4
+      (subst (λ (l : List ℤ). Put out i l a) d p)
+      (subst (λ (l : List ℤ). Put a (i + 4) l b) e q)
+      refl
+      (omega (arith, length-samples s))
+      (omega arith)
+
+  pub four-eights : {c d : List ℤ} → Put out i (take 8 (drop i (samplesIn s))) a
+      → Put a (i + 8) (take 8 (drop (i + 8) (samplesIn s))) b → Put b (i + 16) (take 8 (drop (i + 16) (samplesIn s))) c
+      → Put c (i + 24) (take 8 (drop (i + 24) (samplesIn s))) d → i + 32 ≤ length s / 2 → i + 32 ≤ length out
+      → Put out i (take 32 (drop i (samplesIn s))) d
+  four-eights p q t u h r =
+      let ys : List ℤ = samplesIn s in
+      let l = length-samples s in
+      let v = parts-put ys i (i + 8) 8 8 p q refl (omega arith) (omega arith) in
+      let w = parts-put ys i (i + 16) 16 8 v t refl (omega arith) (omega arith) in
+      parts-put ys i (i + 24) 24 8 w u refl (omega arith) (omega arith)
+
+-- the rest from i on, of which all up to j is there
+abbrev pub Rest : List ℕ → ℕ → ℕ → List ℤ → List ℤ → Type 0
+Rest s i j out out₀ = Filled (take i out₀ ++ drop i (samplesIn s)) (drop j (samplesIn s)) j out out₀
+
+pub rest-begins : (s : List ℕ) (i : ℕ) {out : List ℤ} → i ≤ length s / 2 → length s / 2 ≤ length out → Rest s i i out out
+rest-begins s i h r = filled-none (omega arith)
+
+module _ (s : List ℕ) (i : ℕ) {out out₀ : List ℤ} {j : ℕ} (w : Rest s i j out out₀) (r : length s / 2 ≤ length out₀) where
+  pub rest-room : j < length s / 2 → j < length out
+  rest-room h = omega (arith, w .long)
+
+  pub rest-next : {v : ℤ} → SFits w16 v → v ≡ sampleAt s (2 * j) → j < length s / 2 → Rest s i (j + 1) (set out j (back w16 v)) out₀
+  rest-next {v} f e h =
+      filled-store w
+      (drop-next (samplesIn s) j (pos 0) (omega (arith, length-samples s))
+      ∙ ap (λ (x : ℤ). x ∷ drop (j + 1) (samplesIn s)) (samples-at s j h ∙ sym e ∙ sym (toZ-ofZ f)))
+      (rest-room h)
+      refl
+
+  pub rest-ends : i ≤ length s / 2 → length s / 2 ≤ j → Put out₀ i (drop i (samplesIn s)) out
+  rest-ends b h =
+      filled-put
+      (subst (λ (l : List ℤ). Filled (take i out₀ ++ drop i (samplesIn s)) l j out out₀)
+      (drop-of-length-le (samplesIn s) {i = j} (omega (arith, length-samples s)))
+      w)
+      (omega arith)
+
+pub ruleset rest-turning = (rest-begins, rest-room, rest-next, rest-ends)
 
 -- ---- samples into 16-bit PCM
 pub length-sample : (z : ℤ) → length (sampleBytes z) ≡ 2

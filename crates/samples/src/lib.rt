@@ -1,9 +1,9 @@
 // 16-bit sound: a sample from its two bytes and back, 8-bit sound, holding a wider number to 16
 // bits, and the loops that turn the bytes of PCM sound into samples and samples into bytes.
 ghost use mathlib.Core.Path.{_≡_};
-ghost use mathlib.Core.List.{map};
+ghost use mathlib.Core.List.{[], _∷_, map};
 ghost use Prim.Native.Nat.{_+_, _*_, _/_, _≤_};
-ghost use lib.ListN.{length};
+ghost use lib.ListN.{length, take, drop};
 ghost use Rattle.little.specs.Writing.{Put, front};
 ghost use Rattle.samples.specs.Sound.{signedOf, bitsOf, sampleAt, sampleBytes, samplesIn, soundBytes, eight, hold};
 
@@ -63,6 +63,81 @@ pub fn held(value: i32) -> i16
     value as i16
 }
 
+// Four samples in a row.
+struct Four {
+    first: i16,
+    second: i16,
+    third: i16,
+    fourth: i16,
+}
+
+// The four samples from i on of 16-bit PCM.
+fn four_at(bytes: &[u8], i: usize) -> Four
+    requires { ⌜ i + 4 ≤ length (now bytes) / 2 ⌝ }
+    ensures { λ r. ⌜ r .first ∷ r .second ∷ r .third ∷ r .fourth ∷ [] ≡ take 4 (drop i (samplesIn (now (bytes .entry)))) ⌝ }
+{
+    Four {
+        first: sample_at(bytes, 2 * i),
+        second: sample_at(bytes, 2 * i + 2),
+        third: sample_at(bytes, 2 * i + 4),
+        fourth: sample_at(bytes, 2 * i + 6),
+    }
+}
+
+// Puts four samples at a place.
+fn put_four(out: &mut [i16], at: usize, four: Four)
+    requires { ⌜ at + 4 ≤ length (now out) ⌝ }
+    ensures { λ _. ⌜ Put (now (out .entry)) at (four .first ∷ four .second ∷ four .third ∷ four .fourth ∷ []) (now (out .exit)) ⌝ }
+{
+    let first = four.first;
+    let second = four.second;
+    let third = four.third;
+    let fourth = four.fourth;
+    out[at] = first;
+    out[at + 1] = second;
+    out[at + 2] = third;
+    out[at + 3] = fourth;
+}
+
+// Turns the eight samples from i on of 16-bit PCM. All are read before the first is written, so
+// that a machine can move them as one.
+fn eight_from_pcm16(bytes: &[u8], i: usize, out: &mut [i16])
+    requires { ⌜ i + 8 ≤ length (now bytes) / 2 ⌝ }
+    requires { ⌜ i + 8 ≤ length (now out) ⌝ }
+    ensures { λ _. ⌜ Put (now (out .entry)) i (take 8 (drop i (samplesIn (now (bytes .entry))))) (now (out .exit)) ⌝ }
+{
+    let early = four_at(bytes, i);
+    let late = four_at(bytes, i + 4);
+    put_four(out, i, early);
+    put_four(out, i + 4, late);
+}
+
+// Turns the 32 samples from i on of 16-bit PCM.
+fn many_from_pcm16(bytes: &[u8], i: usize, out: &mut [i16])
+    requires { ⌜ i + 32 ≤ length (now bytes) / 2 ⌝ }
+    requires { ⌜ i + 32 ≤ length (now out) ⌝ }
+    ensures { λ _. ⌜ Put (now (out .entry)) i (take 32 (drop i (samplesIn (now (bytes .entry))))) (now (out .exit)) ⌝ }
+{
+    eight_from_pcm16(bytes, i, out);
+    eight_from_pcm16(bytes, i + 8, out);
+    eight_from_pcm16(bytes, i + 16, out);
+    eight_from_pcm16(bytes, i + 24, out);
+}
+
+// Turns the samples from i on of 16-bit PCM, one by one.
+fn rest_from_pcm16(bytes: &[u8], i: usize, out: &mut [i16])
+    requires { ⌜ i ≤ length (now bytes) / 2 ⌝ }
+    requires { ⌜ length (now bytes) / 2 ≤ length (now out) ⌝ }
+    ensures { λ _. ⌜ Put (now (out .entry)) i (drop i (samplesIn (now (bytes .entry)))) (now (out .exit)) ⌝ }
+{
+    let n = bytes.len() / 2;
+    let mut j = i;
+    while j < n {
+        out[j] = sample_at(bytes, 2 * j);
+        j += 1;
+    }
+}
+
 // Turns 16-bit PCM into samples, from the start of a lent buffer.
 pub fn from_pcm16(bytes: &[u8], out: &mut [i16])
     requires { ⌜ length (now bytes) / 2 ≤ length (now out) ⌝ }
@@ -70,10 +145,11 @@ pub fn from_pcm16(bytes: &[u8], out: &mut [i16])
 {
     let n = bytes.len() / 2;
     let mut i = 0;
-    while i < n {
-        out[i] = sample_at(bytes, 2 * i);
-        i += 1;
+    while 32 <= n - i {
+        many_from_pcm16(bytes, i, out);
+        i += 32;
     }
+    rest_from_pcm16(bytes, i, out);
 }
 
 // Turns 8-bit PCM into samples, from the start of a lent buffer.

@@ -3,6 +3,7 @@ use Prim.Native.Nat.{ℕ}
 use mathlib.Core.Path.{_≡_}
 use mathlib.Core.List.{List, [], _∷_, _++_, map}
 use lib.IntN.{ℤ, pos, negsuc}
+use lib.ListN.{take, drop}
 use Rattle.units.specs.Refusals.{verdictNumber}
 use Rattle.formats.specs.declared.Format.{Format}
 use Rattle.ima.specs.Examples.{Example}
@@ -37,11 +38,8 @@ decodings =
       given = microsoft (0 ∷ 16 ∷ 0 ∷ 100 ∷ 0 ∷ 50 ∷ 0 ∷ 31 ∷ []);
       printed = pos 50 ∷ pos 100 ∷ pos 116 ∷ pos 100 ∷ [];
     }
-    -- pair 4, newer -1, nibble 0 gives 0; the block opens with the older 0 and the newer, and has the nibble twice
-    ∷ record {
-      given = microsoft (4 ∷ 16 ∷ 0 ∷ 255 ∷ 255 ∷ 0 ∷ 0 ∷ 0 ∷ []);
-      printed = pos 0 ∷ negsuc 0 ∷ pos 0 ∷ pos 0 ∷ [];
-    }
+    -- pair 4, newer -1, nibble 0 gives 0: the first sample after the older and the newer
+    ∷ record { given = take 1 (drop 2 (microsoft (4 ∷ 16 ∷ 0 ∷ 255 ∷ 255 ∷ 0 ∷ 0 ∷ 0 ∷ []))); printed = pos 0 ∷ [] }
     -- 8-bit 0, 128, 255 give -32768, 0, 32512
     ∷ record { given = eights 3 (0 ∷ 128 ∷ 255 ∷ []); printed = negsuc 32767 ∷ pos 0 ∷ pos 32512 ∷ [] }
     ∷ []

@@ -1,4 +1,4 @@
--- The first i samples are written, the rest of the buffer is as it was; every turn writes the next.
+-- The first i samples are written, the rest of the buffer is as it was; every turn writes 32 more.
 use Rattle.samples.proofs.Turning.{pcm-turning}
 use Prim.Native.Nat.{_-_}
 use Rattle.little.proofs.Filling.{Written}
@@ -18,5 +18,5 @@ from-pcm16-spec =
     tie.close
     (tie.spec Inv-loop μ-loop (λ c. search (needs, pcm-turning)) (λ c. search (needs, pcm-turning))
     (λ c κs. search (needs, pcm-turning)) (λ c. search (needs, pcm-turning)) (λ c. search (needs, pcm-turning))
-    (λ c. search (needs, pcm-turning)) (λ c. search (needs, pcm-turning)) (λ c. search (needs, pcm-turning))
-    (λ c. search (needs, pcm-turning)) (λ c. search (needs, pcm-turning)))
+    (λ c. search (needs, pcm-turning)) (λ c κs. search (needs, pcm-turning)) (λ c. search (needs, pcm-turning))
+    (λ c. search (needs, pcm-turning)))

@@ -1,0 +1,12 @@
+-- Two writes of four samples, one behind the other, are one of eight.
+use Rattle.samples.proofs.Turning.{twice-four}
+use borrow.Author.Needs.{needs}
+use Rattle.samples.proofs.eight_from_pcm16.Statement.{statement}
+use Rattle.samples.proofs.eight_from_pcm16.Tie as tie
+
+pub eight-from-pcm16-spec : {M : Type 1} → statement M
+eight-from-pcm16-spec =
+    tie.close
+    (tie.spec (λ c κs. search (needs, twice-four)) (λ c. search (needs, twice-four))
+    (λ c κs. search (needs, twice-four)) (λ c κs. search (needs, twice-four)) (λ c. search (needs, twice-four))
+    (λ c κs. search (needs, twice-four)) (λ c. search (needs, twice-four)) (λ c. search (needs, twice-four)))

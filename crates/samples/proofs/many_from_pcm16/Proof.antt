@@ -1,0 +1,13 @@
+-- Four writes of eight samples, one behind the other, are one of 32.
+use Rattle.samples.proofs.Turning.{four-eights}
+use borrow.Author.Needs.{needs}
+use Rattle.samples.proofs.many_from_pcm16.Statement.{statement}
+use Rattle.samples.proofs.many_from_pcm16.Tie as tie
+
+pub many-from-pcm16-spec : {M : Type 1} → statement M
+many-from-pcm16-spec =
+    tie.close
+    (tie.spec (λ c κs. search (needs, four-eights)) (λ c. search (needs, four-eights))
+    (λ c κs. search (needs, four-eights)) (λ c. search (needs, four-eights)) (λ c κs. search (needs, four-eights))
+    (λ c. search (needs, four-eights)) (λ c κs. search (needs, four-eights)) (λ c. search (needs, four-eights))
+    (λ c. search (needs, four-eights)))
