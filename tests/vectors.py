@@ -84,13 +84,15 @@ def little():
 def samples():
     borders = [0, 1, -1, 127, 128, -128, -129, 255, 256, -255, -256, -257, 12345, -12345,
                32766, 32767, -32766, -32767, -32768, 4660]
-    data = struct.pack(f'<{len(borders)}h', *borders) + b'\x99'
-    short = borders + [7] * (40 - len(borders))
-    long = [(value - 128) * 256 for value in data] + [7] * (70 - len(data))
+    # 71 samples: the loop for 16 bits takes 32 at a turn, and has a rest
+    sound = borders + [k * 7919 % 65536 - 32768 for k in range(71 - len(borders))]
+    data = struct.pack(f'<{len(sound)}h', *sound) + b'\x99'
+    short = sound + [7] * (80 - len(sound))
+    long = [(value - 128) * 256 for value in data] + [7] * (150 - len(data))
     one = struct.unpack_from('<h', data, 5)[0]
     lines = ['sixteen' + ''.join(f' {sample}' for sample in short),
              'eight' + ''.join(f' {sample}' for sample in long),
-             'bytes' + hexed(struct.pack('<40h', *short) + b'\xaa' * 5),
+             'bytes' + hexed(struct.pack('<80h', *short) + b'\xaa' * 5),
              f'one {one}' + hexed(b'\xaa\xaa\xaa' + struct.pack('<h', one) + b'\xaa')]
     for value in [-2147483648, -32769, -32768, -32767, -1, 0, 1, 32766, 32767, 32768, 2147483647]:
         lines.append(f'held {value} {max(-32768, min(32767, value))}')

@@ -1,4 +1,4 @@
-// Prints the bytes on standard input (at most 64) as 16-bit and as 8-bit sound and the sound's bytes
+// Prints the bytes on standard input (at most 160) as 16-bit and as 8-bit sound and the sound's bytes
 // again, numbers held to 16 bits, and for all 65,536 samples and all 256 values of 8-bit sound
 // numbers that are mixed of them in order.
 use libc::STDIN_FILENO;
@@ -90,13 +90,13 @@ fn held(text: &[u8], value: i32) {
 }
 
 fn main() {
-    let mut buffer = [0u8; 64];
+    let mut buffer = [0u8; 160];
     let n = io::read_full(STDIN_FILENO, &mut buffer);
-    let mut short = [7i16; 40];
+    let mut short = [7i16; 80];
     sixteen(&buffer[..n], &mut short);
-    let mut long = [7i16; 70];
+    let mut long = [7i16; 150];
     eight(&buffer[..n], &mut long);
-    let mut back = [170u8; 85];
+    let mut back = [170u8; 165];
     bytes_of(&short, &mut back);
     let mut five = [170u8; 6];
     one(&buffer[..n], 5, &mut five);
