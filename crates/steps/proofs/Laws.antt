@@ -4,14 +4,15 @@ use mathlib.Core.Bool.{Bool, true, false, cond}
 use Prim.Native.Nat.{ℕ, zero, suc, _+_, _-_, _*_, _/_, _%_, _≤_, _<_, min}
 use native.Mathlib.Nat.{zero-mul, one-mul, mul-le-mul-right}
 use native.Mathlib.Omega.{arith}
-use lib.Dec.{eqb}
+use lib.Dec.{ltb, eqb}
 use lib.IntN.{ℤ, pos, negsuc, _+ℤ_, _-ℤ_}
 use lib.ListN.{getD}
 use mir.Syntax.{w16, w32}
 use mir.Val.{SFits, Fits, toZ}
 use mir.Facts.{toZ-ofZ, toZ-pos}
+use borrow.Author.Tests.{lt-ltb, le-ltb}
 use Rattle.samples.specs.Sound.{hold}
-use Rattle.samples.proofs.Signed.{Is, is-pos, is-negsuc, is-add, is-minus, is-neg, is-shift, is-unique, is-abs, is-read, fits, back, Near, near-fits, near-add, near-pos, fits-near}
+use Rattle.samples.proofs.Signed.{Is, by-ltb, is-pos, is-negsuc, is-add, is-minus, is-neg, is-shift, is-unique, is-abs, is-read, fits, back, Near, near-fits, near-add, near-pos, fits-near}
 use Rattle.samples.proofs.Laws.{widened, wide-is, hold-fits}
 use Rattle.steps.specs.declared.State.{State}
 use Rattle.steps.specs.Code.{stepAt, hasBit, sizeOf, signedBy, difference, changes, heldIndex, indexFrom, decoded}
@@ -91,6 +92,13 @@ held-index : {z : ℤ} {a b : ℕ} → Is z a b → heldIndex z ≡ min (a - b) 
 held-index {z = pos n} h = omega arith
 held-index {z = negsuc n} h = omega arith
 
+module _ (k : ℕ) where
+  pub rise-none : k < 4 → 0 ≡ cond (ltb k 4) 0 (2 * k - 5)
+  rise-none h = simp (lt-ltb k 4 h)
+
+  pub rise-some : 4 ≤ k → 2 * k - 5 ≡ cond (ltb k 4) 0 (2 * k - 5)
+  rise-some g = simp (le-ltb k 4 g)
+
 module _ (i k : ℕ) where
   pub index-down : k < 4 → indexFrom i k ≡ min (i - 1) 88
   unfolding indexFrom
@@ -103,21 +111,21 @@ module _ (i k : ℕ) where
       rw (ap (λ (n : ℕ). getD changes n (pos 0)) e, up-by (k - 4) (omega arith))
       (held-index (is-add (is-pos i) (is-pos (2 * (k - 4) + 2))) ∙ omega arith)
 
-  module _ (j : i < 89) where
-    pub moved-none : k < 4 → i ≡ 0 → 0 ≡ indexFrom i k
-    moved-none h e = omega (arith, index-down h)
+  -- one more than the move is added, and one taken away where there is one
+  index-risen : (r : ℕ) → k < 8 → r ≡ cond (ltb k 4) 0 (2 * k - 5) → indexFrom i k ≡ min (i + r - 1) 88
+  index-risen r h =
+      by-ltb k 4 (λ c. r ≡ cond c 0 (2 * k - 5) → indexFrom i k ≡ min (i + r - 1) 88)
+      (λ g e. omega (arith, index-down g))
+      (λ g e. omega (arith, index-up g h))
 
-    pub moved-down : k < 4 → i - 1 ≡ indexFrom i k
-    moved-down h = omega (arith, index-down h)
+  module _ (h : k < 8) (r n : ℕ) (e : r ≡ cond (ltb k 4) 0 (2 * k - 5)) (d : n ≡ i + r - 1) where
+    pub moved-top : 88 < n → 88 ≡ indexFrom i k
+    moved-top l = omega (arith, index-risen r h e)
 
-    module _ (g : 4 ≤ k) (h : k < 8) where
-      pub moved-top : 88 < i + 2 * k - 6 → 88 ≡ indexFrom i k
-      moved-top l = omega (arith, index-up g h)
+    pub moved-kept : n ≤ 88 → n ≡ indexFrom i k
+    moved-kept l = omega (arith, index-risen r h e)
 
-      pub moved-up : i + 2 * k - 6 ≤ 88 → i + 2 * k - 6 ≡ indexFrom i k
-      moved-up l = omega (arith, index-up g h)
-
-pub ruleset moving = (moved-none, moved-down, moved-top, moved-up)
+pub ruleset moving = (rise-none, rise-some, moved-top, moved-kept)
 
 pub index-below : (i k : ℕ) → indexFrom i k < 89
 unfolding indexFrom

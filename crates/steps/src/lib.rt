@@ -1,8 +1,8 @@
 // One IMA code: the steps, what a code does to a channel, and the code of a sample.
 ghost use mathlib.Core.Path.{_≡_};
 ghost use mathlib.Core.Bool.{cond};
-ghost use Prim.Native.Nat.{_+_, _*_, _≤_, _<_};
-ghost use lib.Dec.{leb};
+ghost use Prim.Native.Nat.{_+_, _-_, _*_, _≤_, _<_};
+ghost use lib.Dec.{ltb, leb};
 ghost use Rattle.steps.specs.Code.{steps, stepAt, sizeOf, signedBy, indexFrom, decoded, bitsFor, codeFor, tracked, isChased};
 
 // A channel between two codes: its last sample, and the index of its step.
@@ -157,22 +157,38 @@ fn toward(down: bool, size: u32) -> i32
     size as i32
 }
 
-// The index after a code of which `low` are the lower three bits.
+// One more than a code moves the index: nothing for the lower four, which move it down by one.
+fn rise(low: u32) -> usize
+    requires { ⌜ low < 8 ⌝ }
+    ensures { λ r. ⌜ (r ≡ cond (ltb low 4) 0 (2 * low - 5)) × (r ≤ 9) ⌝ }
+{
+    if low < 4 {
+        return 0;
+    }
+    2 * (low as usize) - 5
+}
+
+// A number less one, where there is one to take.
+fn less_one(number: usize) -> usize
+    ensures { λ r. ⌜ r ≡ number - 1 ⌝ }
+{
+    if number == 0 {
+        return 0;
+    }
+    number - 1
+}
+
+// The index after a code of which `low` are the lower three bits. All codes go the same way, since no
+// machine foresees a branch on them.
 fn moved(index: usize, low: u32) -> usize
     requires { ⌜ (index < 89) × (low < 8) ⌝ }
     ensures { λ r. ⌜ (r ≡ indexFrom index low) × (r < 89) ⌝ }
 {
-    if low < 4 {
-        if index == 0 {
-            return 0;
-        }
-        return index - 1;
-    }
-    let up = index + 2 * (low as usize) - 6;
-    if 88 < up {
+    let next = less_one(index + rise(low));
+    if 88 < next {
         return 88;
     }
-    up
+    next
 }
 
 // A channel after a code. The table of steps is lent, so that a loop copies it once and for all.
