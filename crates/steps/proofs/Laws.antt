@@ -33,16 +33,15 @@ module _ (b v : ℕ) (h : b ≤ 1) where
 
 pub ruleset bits = (bit-most, bit-fits)
 
-pub size-is : (s low : ℕ) {a b c : ℕ} → low < 8 → a ≡ low / 4 * s → b ≡ low / 2 % 2 * (s / 2) → c ≡ low % 2 * (s / 4)
+pub size-is : (s low : ℕ) {a b c : ℕ} → low < 8 → a ≡ cond (eqb (low / 4) 1) s 0 → b ≡ low / 2 % 2 * (s / 2) → c ≡ low % 2 * (s / 4)
     → s / 8 + a + b + c ≡ sizeOf s low
 unfolding sizeOf hasBit
 size-is s low h d e f =
     let g : low / 4 % 2 ≡ low / 4 = omega arith in
     let i : low / 1 ≡ low = omega arith in
-    let j : low / 4 ≤ 1 = omega arith in
     let k : low / 2 % 2 ≤ 1 = omega arith in
     let l : low % 2 ≤ 1 = omega arith in
-    simp (d, e, f, g, i, bit-is (low / 4) s j, bit-is (low / 2 % 2) (s / 2) k, bit-is (low % 2) (s / 4) l)
+    simp (d, e, f, g, i, bit-is (low / 2 % 2) (s / 2) k, bit-is (low % 2) (s / 4) l)
 
 pub ruleset sizing = (size-is)
 

@@ -140,7 +140,7 @@ fn size(step: u32, low: u32) -> u32
     requires { ⌜ (step ≤ 32767) × (low < 8) ⌝ }
     ensures { λ r. ⌜ (r ≡ sizeOf step low) × (r ≤ 65535) ⌝ }
 {
-    let four = times(low / 4, step);
+    let four = part(low / 4 == 1, step);
     let two = times(low / 2 % 2, step / 2);
     let one = times(low % 2, step / 4);
     step / 8 + four + two + one
@@ -200,10 +200,11 @@ pub fn decode_code(state: State, code: u32, table: &[u16; 89]) -> State
     let step = table[index] as u32;
     let low = code % 8;
     let difference = toward(code / 8 % 2 == 1, size(step, low));
+    let next = moved(index, low);
     let last = samples::held(state.last as i32 + difference);
     State {
         last: last,
-        index: moved(index, low),
+        index: next,
     }
 }
 

@@ -9,6 +9,5 @@ pub decode-code-spec : {M : Type 1} → statement M
 decode-code-spec =
     tie.close
     (tie.spec (λ c. search needs) (λ c. search needs) (λ c. search (needs, reading))
-    (λ c κs. search (needs, reading)) (λ c κs. search needs) (λ c. search (needs, decoding))
-    (λ c. search (needs, decoding)) (λ c κs. search needs) (λ c κs. search needs)
-    (λ c. search (needs, reading, decoding)))
+    (λ c κs. search (needs, reading)) (λ c κs. search needs) (λ c κs. search needs) (λ c. search (needs, decoding))
+    (λ c. search (needs, decoding)) (λ c κs. search needs) (λ c. search (needs, reading, decoding)))
