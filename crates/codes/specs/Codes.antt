@@ -3,7 +3,7 @@ use Prim.Native.Nat.{ℕ}
 use mathlib.Core.Bool.{Bool}
 use mathlib.Core.List.{List}
 use lib.Dec.{eqb}
-use Rattle.little.specs.Numbers.{numberAt}
+use Rattle.little.specs.Numbers.{numberAt, bytesOf}
 use Rattle.codes.specs.declared.Code.{Code}
 use Rattle.codes.specs.declared.Code.the-variants.{Riff, Wave, Format, Data, Fact, Cue, Playlist, Listing, WaveList}
 
@@ -31,3 +31,7 @@ codeNumber WaveList = 1819697527
 -- a code stands at a place
 unfoldable pub isAt : List ℕ → ℕ → Code → Bool
 isAt s at c = eqb (numberAt 4 s at) (codeNumber c)
+
+-- the four bytes of a code
+unfoldable pub codeBytes : Code → List ℕ
+codeBytes c = bytesOf 4 (codeNumber c)

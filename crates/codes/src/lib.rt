@@ -1,6 +1,10 @@
-// The four-byte codes of a WAVE file, and the one test whether a code stands at a place.
+// The four-byte codes of a WAVE file: the one test whether a code stands at a place, and the one that
+// puts it there.
 ghost use mathlib.Core.Path.{_≡_};
-ghost use Rattle.codes.specs.Codes.{codeNumber, isAt};
+ghost use Prim.Native.Nat.{_+_, _≤_};
+ghost use lib.ListN.{length};
+ghost use Rattle.little.specs.Writing.{Put};
+ghost use Rattle.codes.specs.Codes.{codeNumber, isAt, codeBytes};
 
 // The codes as numbers: the first letter is the least significant byte.
 const RIFF: u32 = 1179011410;
@@ -56,4 +60,12 @@ pub fn is_at(bytes: &[u8], at: usize, code: Code) -> bool
     ensures { λ r. ⌜ r ≡ isAt (now (bytes .entry)) at code ⌝ }
 {
     little::u32_or_zero(bytes, at) == number(code)
+}
+
+// Puts a code at a place.
+pub fn put(out: &mut [u8], at: usize, code: Code)
+    requires { ⌜ at + 4 ≤ length (now out) ⌝ }
+    ensures { λ _. ⌜ Put (now (out .entry)) at (codeBytes code) (now (out .exit)) ⌝ }
+{
+    little::put_u32(out, at, number(code));
 }

@@ -1,5 +1,5 @@
 // The chunks of a RIFF file: its header, the walk over the chunks from byte 12, and the directory of
-// those that a WAVE file is read by.
+// those that a WAVE file is read by; and the heads of a file and of a chunk, as they are written.
 //
 // A step of the walk is a chunk's place or the refusal that ends the walk.
 use codes::Code;
@@ -7,9 +7,12 @@ use units::BytePlace;
 use units::Refusal;
 use units::Verdict;
 ghost use mathlib.Core.Path.{_≡_};
-ghost use lib.ListN.{take, drop};
+ghost use Prim.Native.Nat.{_+_, _≤_};
+ghost use lib.ListN.{length, take, drop};
+ghost use Rattle.little.specs.Writing.{Put};
 ghost use Rattle.riff.specs.Chunks.{headVerdict, kindAt, placeAt, spotOf, isThere, early, startsAsWaves, waveList, chunkAt, directory, keep};
 ghost use Rattle.riff.specs.Walk.{refusalOf, walkOf, directoryOf, partOf};
+ghost use Rattle.riff.specs.Laying.{headBytes, riffBytes};
 
 // The longest file, in bytes.
 pub const LIMIT: usize = 1073741824;
@@ -322,4 +325,24 @@ pub fn part<'a>(file: &'a [u8], spot: Spot, absent: &'a [u8]) -> &'a [u8]
         Spot::At(place) => bytes_from(file, place.start.0, place.size.0),
         Spot::Missing => absent,
     }
+}
+
+// ---- writing
+
+// Puts a chunk's code and size at a place.
+pub fn put_head(out: &mut [u8], at: usize, code: Code, size: u32)
+    requires { ⌜ at + 8 ≤ length (now out) ⌝ }
+    ensures { λ _. ⌜ Put (now (out .entry)) at (headBytes code size) (now (out .exit)) ⌝ }
+{
+    codes::put(out, at, code);
+    little::put_u32(out, at + 4, size);
+}
+
+// Puts the first twelve bytes of a file, whose size is that of all that follows the first eight.
+pub fn put_riff(out: &mut [u8], size: u32)
+    requires { ⌜ 12 ≤ length (now out) ⌝ }
+    ensures { λ _. ⌜ Put (now (out .entry)) 0 (riffBytes size) (now (out .exit)) ⌝ }
+{
+    put_head(out, 0, Code::Riff, size);
+    codes::put(out, 8, Code::Wave);
 }

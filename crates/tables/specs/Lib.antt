@@ -1,3 +1,4 @@
 pub mod Tables
 pub mod Cues
 pub mod Plays
+pub mod Bytes

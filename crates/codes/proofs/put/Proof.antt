@@ -1,0 +1,8 @@
+-- A code is put as the number that its letters are.
+use borrow.Author.Needs.{needs}
+use Rattle.codes.proofs.Laws.{put-code}
+use Rattle.codes.proofs.put.Statement.{statement}
+use Rattle.codes.proofs.put.Tie as tie
+
+pub put-spec : {M : Type 1} → statement M
+put-spec = tie.close (tie.spec (λ c κs. search needs) (λ c κs. search needs) (λ c. search needs) (λ c. search (needs, put-code)))
