@@ -1,5 +1,10 @@
+pub mod Back
+pub mod Bounds
 pub mod Counts
 pub mod Forms
+pub mod Lengths
 pub mod Pairs
+pub mod Putting
 pub mod Rules
 pub mod Taken
+pub mod Written

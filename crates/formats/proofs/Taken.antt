@@ -34,6 +34,7 @@ pub record Pcm (f : Format) : Type 0 where
   pub samples : f .samples ≡ 1
 
 pub record Blocked (f : Format) : Type 0 where
+  pub bits : f .bits ≡ 4
   pub least : 8 * f .channels ≤ f .align
   pub most : f .align ≤ 4096
 
@@ -65,7 +66,11 @@ unfolding blocked
 blocked-says f e =
     let p = and-both (eqb (f .bits) 4 && leb (8 * f .channels) (f .align)) (leb (f .align) 4096) e in
     let q = and-both (eqb (f .bits) 4) (leb (8 * f .channels) (f .align)) (p .0) in
-    record { least = leb-true (8 * f .channels) (f .align) (q .1); most = leb-true (f .align) 4096 (p .1) }
+    record {
+      bits = eqb-true (f .bits) 4 (q .0);
+      least = leb-true (8 * f .channels) (f .align) (q .1);
+      most = leb-true (f .align) 4096 (p .1);
+    }
 
 ima-says : (f : Format) → imaRule f ≡ true → Ima f
 unfolding imaRule
@@ -89,19 +94,22 @@ module _ (f : Format) (e : formatRule f ≡ true) where
   unfolding formatRule
   parts = and-both (shared f) (byTag (f .tag) (pcmRule f) (imaRule f) (microsoftRule f) false) e
 
-  channels : (1 ≤ f .channels) × (f .channels ≤ 2)
+  numbers : (1 ≤ f .channels) × (f .channels ≤ 2) × (f .rate ≤ 192000)
   unfolding shared
-  channels =
+  numbers =
       let p = and-both (leb 1 (f .channels) && leb (f .channels) 2 && leb 1 (f .rate)) (leb (f .rate) 192000) (parts .0) in
       let q = and-both (leb 1 (f .channels) && leb (f .channels) 2) (leb 1 (f .rate)) (p .0) in
       let r = and-both (leb 1 (f .channels)) (leb (f .channels) 2) (q .0) in
-      (leb-true 1 (f .channels) (r .0), leb-true (f .channels) 2 (r .1))
+      (leb-true 1 (f .channels) (r .0), leb-true (f .channels) 2 (r .1), leb-true (f .rate) 192000 (p .1))
 
   pub taken-some : 1 ≤ f .channels
-  taken-some = channels .0
+  taken-some = numbers .0
 
   pub taken-two : f .channels ≤ 2
-  taken-two = channels .1
+  taken-two = numbers .1
+
+  pub taken-rate : f .rate ≤ 192000
+  taken-rate = numbers .2
 
   pub taken-pcm : f .tag ≡ 1 → Pcm f
   taken-pcm t =
@@ -142,11 +150,14 @@ module _ (f : Format) (e : formatRule f ≡ true) where
         let k : f .channels * 8 / 8 ≡ f .channels = omega arith in
         taken-pcm t .align ∙ ap (λ (n : ℕ). f .channels * n / 8) b ∙ k
 
+    pub taken-bits : (f .bits ≡ 8 → ⊥) → f .bits ≡ 16
+    taken-bits b =
+        eqb-true (f .bits) 16 (or-second (eqb (f .bits) 8) (eqb (f .bits) 16) (taken-pcm t .bits) (ne-eqb (f .bits) 8 b))
+
     pub taken-sixteen : (f .bits ≡ 8 → ⊥) → f .align ≡ 2 * f .channels
     taken-sixteen b =
-        let s = or-second (eqb (f .bits) 8) (eqb (f .bits) 16) (taken-pcm t .bits) (ne-eqb (f .bits) 8 b) in
         let k : f .channels * 16 / 8 ≡ 2 * f .channels = omega arith in
-        taken-pcm t .align ∙ ap (λ (n : ℕ). f .channels * n / 8) (eqb-true (f .bits) 16 s) ∙ k
+        taken-pcm t .align ∙ ap (λ (n : ℕ). f .channels * n / 8) (taken-bits b) ∙ k
 
     frame-some : 1 ≤ f .align
     frame-some =

@@ -1,15 +1,23 @@
-// What the chunks `fmt `, `data` and `fact` say, and the rules that they must keep.
+// What the chunks `fmt `, `data` and `fact` say, the rules that they must keep, and the bytes of `fmt `
+// and `fact`, as they are written.
 //
 // What a chunk says is a total value of its bytes. What it must keep is split in two: its form, of
 // the bytes alone, and its rule, of the value; a writer needs the rule and not the form.
 use units::BytePlace;
 use units::Frames;
 ghost use mathlib.Core.Path.{_≡_};
-ghost use mathlib.Core.Bool.{_||_};
-ghost use Prim.Native.Nat.{_≤_, _<_};
+ghost use mathlib.Core.Bool.{true, _||_};
+ghost use mathlib.Core.List.{_++_};
+ghost use Prim.Native.Nat.{_+_, _%_, _≤_, _<_};
 ghost use lib.Dec.{eqb};
+ghost use lib.IntN.{pos};
+ghost use lib.ListN.{length, getD};
+ghost use Rattle.little.specs.Numbers.{bytesOf};
+ghost use Rattle.little.specs.Writing.{Put};
+ghost use Rattle.samples.specs.Sound.{sampleBytes};
 ghost use Rattle.formats.specs.Format.{formatOf, samplesIn, extended, pairAt, pairsForm, average, formatForm};
-ghost use Rattle.formats.specs.Format.{shared, pcmRule, blocked, imaRule, microsoftRule, formatRule};
+ghost use Rattle.formats.specs.Bytes.{averageOf, sharedBytes, extensionBytes, pairsBytes, coefficientBytes, formatBytes, factBytes};
+ghost use Rattle.formats.specs.Format.{pairs, shared, pcmRule, blocked, imaRule, microsoftRule, formatRule};
 ghost use Rattle.formats.specs.Frames.{wholeBlocks, framesOf, factForm, needsFact, blocksIn, countFits, framesRule};
 
 pub const PCM: u16 = 1;
@@ -326,4 +334,135 @@ pub fn frames_rule(format: Format, sound: BytePlace, frames: Frames) -> bool
         return frames.0 as usize == blocks;
     }
     count_fits(blocks, format.samples, frames.0)
+}
+
+// ---- writing
+
+// The bytes that a `fmt ` takes.
+pub fn format_size(format: Format) -> usize
+    ensures { λ r. ⌜ (r ≡ length (formatBytes format)) × (r ≤ 50) × (r % 2 ≡ 0) ⌝ }
+{
+    let tag = format.tag;
+    if tag == PCM {
+        return 16;
+    }
+    if tag == IMA {
+        return 20;
+    }
+    if tag == MICROSOFT {
+        return 50;
+    }
+    16
+}
+
+// The bytes of a second: of ADPCM, rounded down.
+fn average_of(format: Format) -> u32
+    requires { ⌜ formatRule format ≡ true ⌝ }
+    ensures { λ r. ⌜ r ≡ averageOf format ⌝ }
+{
+    let bytes = format.rate * format.align as u32;
+    if format.tag == PCM {
+        return bytes;
+    }
+    bytes / format.samples as u32
+}
+
+// Puts tag, channels and rate.
+fn put_kind(out: &mut [u8], at: usize, format: Format)
+    requires { ⌜ at + 8 ≤ length (now out) ⌝ }
+    ensures { λ _. ⌜ Put (now (out .entry)) at (bytesOf 2 (format .tag) ++ (bytesOf 2 (format .channels) ++ bytesOf 4 (format .rate))) (now (out .exit)) ⌝ }
+{
+    little::put_u16(out, at, format.tag);
+    little::put_u16(out, at + 2, format.channels);
+    little::put_u32(out, at + 4, format.rate);
+}
+
+// Puts average, align and bits.
+fn put_sizes(out: &mut [u8], at: usize, format: Format)
+    requires { ⌜ formatRule format ≡ true ⌝ }
+    requires { ⌜ at + 8 ≤ length (now out) ⌝ }
+    ensures { λ _. ⌜ Put (now (out .entry)) at (bytesOf 4 (averageOf format) ++ (bytesOf 2 (format .align) ++ bytesOf 2 (format .bits))) (now (out .exit)) ⌝ }
+{
+    let average = average_of(format);
+    little::put_u32(out, at, average);
+    little::put_u16(out, at + 4, format.align);
+    little::put_u16(out, at + 6, format.bits);
+}
+
+// Puts what every `fmt ` has.
+fn put_shared(out: &mut [u8], at: usize, format: Format)
+    requires { ⌜ formatRule format ≡ true ⌝ }
+    requires { ⌜ at + 16 ≤ length (now out) ⌝ }
+    ensures { λ _. ⌜ Put (now (out .entry)) at (sharedBytes format) (now (out .exit)) ⌝ }
+{
+    put_kind(out, at, format);
+    put_sizes(out, at + 8, format);
+}
+
+// Puts the size of an extension, and the samples of a block.
+fn put_extension(out: &mut [u8], at: usize, size: u16, format: Format)
+    requires { ⌜ at + 4 ≤ length (now out) ⌝ }
+    ensures { λ _. ⌜ Put (now (out .entry)) at (extensionBytes size format) (now (out .exit)) ⌝ }
+{
+    little::put_u16(out, at, size);
+    little::put_u16(out, at + 2, format.samples);
+}
+
+// Puts a pair.
+fn put_pair(out: &mut [u8], at: usize, pair: [i16; 2])
+    requires { ⌜ at + 4 ≤ length (now out) ⌝ }
+    ensures { λ _. ⌜ Put (now (out .entry)) at (sampleBytes (getD pair 0 (pos 0)) ++ sampleBytes (getD pair 1 (pos 0))) (now (out .exit)) ⌝ }
+{
+    samples::put_sample(out, at, pair[0]);
+    samples::put_sample(out, at + 2, pair[1]);
+}
+
+// Puts the seven pairs.
+fn put_pairs(out: &mut [u8], at: usize)
+    requires { ⌜ at + 28 ≤ length (now out) ⌝ }
+    ensures { λ _. ⌜ Put (now (out .entry)) at (pairsBytes pairs) (now (out .exit)) ⌝ }
+{
+    let pairs = PAIRS;
+    let mut i = 0;
+    while i < 7 {
+        let pair = pairs[i];
+        put_pair(out, at + 4 * i, pair);
+        i += 1;
+    }
+}
+
+// Puts the pair count and the seven pairs.
+fn put_coefficients(out: &mut [u8], at: usize)
+    requires { ⌜ at + 30 ≤ length (now out) ⌝ }
+    ensures { λ _. ⌜ Put (now (out .entry)) at coefficientBytes (now (out .exit)) ⌝ }
+{
+    little::put_u16(out, at, 7);
+    put_pairs(out, at + 2);
+}
+
+// Puts a `fmt `.
+pub fn put_format(out: &mut [u8], at: usize, format: Format)
+    requires { ⌜ formatRule format ≡ true ⌝ }
+    requires { ⌜ at + length (formatBytes format) ≤ length (now out) ⌝ }
+    ensures { λ _. ⌜ Put (now (out .entry)) at (formatBytes format) (now (out .exit)) ⌝ }
+{
+    put_shared(out, at, format);
+    let tag = format.tag;
+    if tag == PCM {
+        return;
+    }
+    if tag == IMA {
+        put_extension(out, at + 16, 2, format);
+        return;
+    }
+    put_extension(out, at + 16, 32, format);
+    put_coefficients(out, at + 20);
+}
+
+// Puts a `fact`.
+pub fn put_fact(out: &mut [u8], at: usize, frames: Frames)
+    requires { ⌜ at + 4 ≤ length (now out) ⌝ }
+    ensures { λ _. ⌜ Put (now (out .entry)) at (factBytes frames) (now (out .exit)) ⌝ }
+{
+    little::put_u32(out, at, frames.0);
 }

@@ -47,6 +47,11 @@ module _ {A : Type 0} where
   unfolding writeAt front
   put-front {d} {ys} p = p .same ∙ ap (λ (k : ℕ). ys ++ drop k d) (zero-add (length ys))
 
+  -- no bytes, at any index
+  pub put-nothing : {d : List A} {at : ℕ} → Put d at [] d
+  unfolding writeAt
+  put-nothing {d} {at} = record { same = sym (rw (append-nil (take at d), add-zero at) (take-append-drop at d)) }
+
   -- one store, and two and four in a row
   pub one-store : {d : List A} {at : ℕ} {x : A} → at + 1 ≤ length d → Put d at (x ∷ []) (set d at x)
   unfolding writeAt
@@ -120,6 +125,20 @@ module _ {A : Type 0} where
       let f = filled-piece (filled-none (omega arith)) p refl n (omega arith) in
       filled-put (filled-piece f q (sym (append-nil ys)) refl (omega (arith, f .long))) (omega arith)
 
+  -- the room of each of them, and where they end
+  pub first-room : (xs ys : List A) (at : ℕ) {m : ℕ} → at + length (xs ++ ys) ≤ m → at + length xs ≤ m
+  first-room xs ys at h = omega (arith, length-append xs ys)
+
+  pub both-end : (xs ys : List A) (at : ℕ) {at′ end : ℕ} → at′ ≡ at + length xs → end ≡ at′ + length ys → end ≡ at + length (xs ++ ys)
+  both-end xs ys at n k = omega (arith, length-append xs ys)
+
+  module _ (xs ys : List A) {d e : List A} {at at′ : ℕ} (h : at + length (xs ++ ys) ≤ length d) (p : Put d at xs e) (n : at′ ≡ at + length xs) where
+    pub next-room : at′ + length ys ≤ length e
+    next-room = let l = put-long p (first-room xs ys at h) in omega (arith, length-append xs ys)
+
+    pub both-put : {g : List A} → Put e at′ ys g → Put d at (xs ++ ys) g
+    both-put q = put-next p q n (omega (arith, length-append xs ys))
+
   -- ---- what a loop reads: a part of n elements from index x, and the next element from index i on
   pub part-long : (s : List A) (x n : ℕ) → x + n ≤ length s → length (take n (drop x s)) ≡ n
   part-long s x n h = length-take-le n (drop x s) (omega (arith, length-drop x s))
@@ -162,6 +181,8 @@ module _ {A : Type 0} {ys d d₀ : List A} {at i : ℕ} (w : Written ys at i d d
   -- the next element as it stands
   pub copy-next : (z : A) → i < length ys → Written ys at (i + 1) (set d (at + i) (getD ys i z)) d₀
   copy-next z h = write-next z h refl
+
+pub ruleset behind = (first-room, both-end, next-room, both-put)
 
 pub ruleset copying = (write-begins, write-room, copy-next, write-ends)
 

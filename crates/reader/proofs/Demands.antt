@@ -20,7 +20,7 @@ use Rattle.tables.specs.Cues.{noCue}
 use Rattle.tables.specs.Plays.{noPlay}
 use Rattle.tables.proofs.Entries.{all-zero, cues-zero, plays-zero}
 use Rattle.rules.specs.declared.Record.{Record}
-use Rattle.rules.specs.Rules.{recordOf, verdictOf, blank}
+use Rattle.rules.specs.Rules.{recordOf, inOrder, verdictOf, blank}
 use Rattle.reader.specs.Content.{Content, refused, holds, taken, soundPart, cuePart, playlistPart, recordAt, verdictAt, contentAt, contentIn, contentOf, readingOf, soundOf, reading, soundIn, spotBy, soundSpot}
 use Rattle.reader.specs.Demands.{chunkNumber, Numbered, Tied, Placed, Refusing, ZeroPast}
 
@@ -96,7 +96,7 @@ taken-row true false v m w = refl
 taken-row false b v m w = refl
 
 chunk-rows : (s : List ℕ) (w : Walked) → verdictNumber (readingOf (contentIn s w) .verdict) ≡ chunkNumber s w
-unfolding contentAt verdictOf
+unfolding contentAt verdictOf inOrder
 chunk-rows s (Stopped r) = refl
 chunk-rows s (Whole d) =
     taken-row (isThere (d .format)) (isThere (d .sound)) (verdictAt s d) (recordAt s d) (soundPart s d) ∙ simp demand-row

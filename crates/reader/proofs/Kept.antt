@@ -20,7 +20,7 @@ use Rattle.formats.specs.Format.{formatForm, formatRule}
 use Rattle.formats.specs.Frames.{wholeBlocks, factForm, framesRule, Sounding}
 use Rattle.rules.specs.declared.Record.{Record}
 use Rattle.rules.specs.declared.Reading.{Reading}
-use Rattle.rules.specs.Rules.{fine, formatFine, factFine, cuesFine, playsFine, verdictOf}
+use Rattle.rules.specs.Rules.{fine, formatFine, factFine, cuesFine, playsFine, inOrder, verdictOf}
 use Rattle.reader.specs.Content.{Content, refused, holds, taken, formatPart, soundPart, soundSize, factPart, cuePart, playlistPart, recordAt, verdictAt, contentAt, contentIn, contentOf, reading, soundIn}
 use Rattle.reader.proofs.Demands.{tied}
 
@@ -31,7 +31,7 @@ both false b e = absurd (subst (λ (x : Bool). cond x ⊥ (Unit {0})) e tt)
 
 kept-by : (fmt : List ℕ) (n : BytePlace) (fact cue plst : List ℕ) (m : Record) (w : List ℕ) → n ≡ record { 0 = length w }
     → verdictOf fmt n fact cue plst m ≡ Accepted → Sounding (m .format) (m .frames) w
-unfolding verdictOf
+unfolding verdictOf inOrder
 kept-by fmt n fact cue plst m w k e =
     let x : Verdict = demand (playsFine plst (m .playlist) (m .cues) (m .frames)) PlaylistWrong Accepted in
     let y : Verdict = demand (cuesFine cue (m .cues) (m .frames)) CuesWrong x in

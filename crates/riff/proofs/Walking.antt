@@ -1,6 +1,6 @@
 -- The walk: what is left of it at a place, and how a step goes on from there. Assumes nothing.
 use mathlib.Core.Path.{_≡_, refl, sym, ap, _∙_}
-use mathlib.Core.Bool.{Bool, true, false, cond}
+use mathlib.Core.Bool.{Bool, true, false, cond, _||_}
 use mathlib.Core.List.{List}
 use Prim.Native.Nat.{ℕ, zero, suc, _+_, _-_, _≤_, _<_}
 use native.Mathlib.Omega.{arith}
@@ -20,32 +20,60 @@ use Rattle.riff.specs.declared.Walked.{Walked}
 use Rattle.riff.specs.declared.Walked.the-variants.{Whole, Stopped}
 use Rattle.riff.specs.Chunks.{headVerdict, nextAt, placed, passes, placeAt, spotOf, isThere, keep, early, waveList, checked, chunkAt}
 use Rattle.riff.specs.Walk.{nothingYet, andThen, stepsFrom, stepsOf, gather, walkOf, opened, directoryOf, refusalOf}
-use Rattle.riff.proofs.Heading.{head-long}
+use Rattle.riff.proofs.Heading.{head-short, head-long}
 
--- ---- a chunk that was found starts before the next
+-- ---- a chunk that was met: it stands there, it fits the file, and none of its kind was met before
+pub record Met (s : List ℕ) (at : ℕ) (d : Directory) (p : Place) : Type 0 where
+  pub same : placed s at ≡ p
+  pub fits : nextAt s at ≤ length s
+  pub new : isThere (spotOf d (p .kind)) ≡ false
 
 -- of a test that refuses, a chunk came the other way
+failed : (x : Bool) (r : Refusal) (t : Step) (p : Place) → cond x (Refused r) t ≡ Chunk p → x ≡ false
+failed true r t p e = let z : _≡_ {A = ℕ} 0 1 = cc in absurd (omega arith)
+failed false r t p e = refl
+
 through : (x : Bool) (r : Refusal) (t : Step) (p : Place) → cond x (Refused r) t ≡ Chunk p → t ≡ Chunk p
 through true r t p e = let z : _≡_ {A = ℕ} 0 1 = cc in absurd (omega arith)
 through false r t p e = e
 
-unchecked : (s : List ℕ) (d : Directory) (t : Step) (p : Place) → checked s d t ≡ Chunk p → t ≡ Chunk p
-unchecked s d (Refused r) p e = e
-unchecked s d (Chunk q) p e =
-    through (waveList s q (q .kind)) WaveList (Chunk q) p
-    (through (early d (q .kind)) DataBeforeFormat _ p
-    (through (isThere (spotOf d (q .kind))) SecondOfItsKind _ p e))
+abbrev placeIn : Place → Step → Place
+placeIn q (Chunk p) = p
+placeIn q (Refused r) = q
 
-abbrev nextIn : Step → ℕ
-nextIn (Chunk p) = p .next .0
-nextIn (Refused r) = 0
+module _ (s : List ℕ) (at : BytePlace) (d : Directory) (p : Place) where
+  placed-there : placeAt s at ≡ Chunk p → placed s (at .0) ≡ p
+  unfolding placeAt
+  placed-there e = ap (placeIn p) (through (passes s (at .0)) ChunkPastTheEnd (Chunk (placed s (at .0))) p e)
 
-pub later : (s : List ℕ) (at : BytePlace) (d : Directory) (p : Place) → chunkAt s at d ≡ Chunk p → at .0 < p .next .0
-unfolding chunkAt placeAt
-later s at d p e =
-    let q = unchecked s d (placeAt s at) p e in
-    let n : nextAt s (at .0) ≡ p .next .0 = ap nextIn (through (passes s (at .0)) ChunkPastTheEnd (Chunk (placed s (at .0))) p q) in
-    omega arith
+  placed-fits : placeAt s at ≡ Chunk p → nextAt s (at .0) ≤ length s
+  unfolding placeAt
+  placed-fits e =
+      ltb-false (length s) (nextAt s (at .0))
+      (second (ltb (length s) (at .0 + 8)) _ (failed (passes s (at .0)) ChunkPastTheEnd (Chunk (placed s (at .0))) p e))
+    where
+      second : (x y : Bool) → (x || y) ≡ false → y ≡ false
+      second true y f = let z : _≡_ {A = ℕ} 0 1 = cc in absurd (omega arith)
+      second false y f = f
+
+  pub met : chunkAt s at d ≡ Chunk p → Met s (at .0) d p
+  unfolding chunkAt
+  met = by (placeAt s at) refl
+    where
+      by : (t : Step) → placeAt s at ≡ t → checked s d t ≡ Chunk p → Met s (at .0) d p
+      by (Refused r) f e = let z : _≡_ {A = ℕ} 0 1 = cc in absurd (omega arith)
+      by (Chunk q) f e =
+          let w = through (isThere (spotOf d (q .kind))) SecondOfItsKind _ p e in
+          let v = through (waveList s q (q .kind)) WaveList (Chunk q) p (through (early d (q .kind)) DataBeforeFormat _ p w) in
+          let n = failed (isThere (spotOf d (q .kind))) SecondOfItsKind _ p e in
+          let c : q ≡ p = ap (placeIn p) v in
+          record { same = placed-there (f ∙ v); fits = placed-fits (f ∙ v); new = rw c at n }
+
+  -- it starts before the next
+  pub later : chunkAt s at d ≡ Chunk p → at .0 < p .next .0
+  later e =
+      let n : nextAt s (at .0) ≡ p .next .0 = ap (λ (q : Place). q .next .0) (met e .same) in
+      omega arith
 
 -- ---- the walk of s is what it keeps so far and the steps that are left
 pub record Rest (s : List ℕ) (at : ℕ) (d : Directory) : Type 0 where
@@ -113,14 +141,26 @@ module _ (s : List ℕ) {v : Verdict} (e : v ≡ headVerdict s) where
 
 pub ruleset opening = (open-walks, open-refused)
 
--- a file with a directory is not too long
-pub whole-limit : (s : List ℕ) {w : Walked} {d : Directory} → w ≡ directoryOf s → w ≡ Whole d → length s ≤ 1073741824
-whole-limit s {w} {d} e f = by (ltb 1073741824 (length s)) refl
-  where
-    by : (b : Bool) → ltb 1073741824 (length s) ≡ b → length s ≤ 1073741824
-    by true t =
-        let l = ltb-true 1073741824 (length s) t in
-        let r : Stopped LengthOutOfRange ≡ directoryOf s = open-refused s refl (sym (head-long s (omega arith) l)) in
-        let z : _≡_ {A = ℕ} 0 1 = cc in
-        absurd (omega arith)
-    by false t = ltb-false 1073741824 (length s) t
+-- a file that is too short or too long has no directory
+pub too-short : (s : List ℕ) → length s < 12 → directoryOf s ≡ Stopped LengthOutOfRange
+too-short s h = sym (open-refused s refl (sym (head-short s h)))
+
+pub too-long : (s : List ℕ) → 1073741824 < length s → directoryOf s ≡ Stopped LengthOutOfRange
+too-long s h = sym (open-refused s refl (sym (head-long s (omega arith) h)))
+
+module _ (s : List ℕ) {w : Walked} {d : Directory} (e : w ≡ directoryOf s) (f : w ≡ Whole d) where
+  not-stopped : (a b : ℕ) → (a < b → directoryOf s ≡ Stopped LengthOutOfRange) → b ≤ a
+  not-stopped a b stop = by (ltb a b) refl
+    where
+      by : (x : Bool) → ltb a b ≡ x → b ≤ a
+      by true t =
+          let r = stop (ltb-true a b t) in
+          let z : _≡_ {A = ℕ} 0 1 = cc in
+          absurd (omega arith)
+      by false t = ltb-false a b t
+
+  pub whole-long : 12 ≤ length s
+  whole-long = not-stopped (length s) 12 (too-short s)
+
+  pub whole-limit : length s ≤ 1073741824
+  whole-limit = not-stopped 1073741824 (length s) (too-long s)

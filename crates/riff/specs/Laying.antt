@@ -26,6 +26,10 @@ padBytes size = replicate (size % 2) 0
 unfoldable pub pieceBytes : Piece → List ℕ
 pieceBytes p = headBytes (p .code) (length (p .bytes)) ++ (p .bytes ++ padBytes (length (p .bytes)))
 
+-- the bytes of a chunk whose data are n bytes
+abbrev pub extent : ℕ → ℕ
+extent n = 8 + (n + n % 2)
+
 -- ---- a file of chunks
 
 -- from byte 12 the chunks with their pads tile the body without gap
@@ -61,6 +65,13 @@ piece c bytes = record { code = c; bytes = bytes }
 -- a chunk where it is written, and those after it
 unfoldable pub given : Code → Part → List Piece → List Piece
 given c p ps = cond (p .there) (piece c (p .bytes) ∷ ps) ps
+
+-- the bytes of a chunk where it is written, and how many they are
+unfoldable pub partBytes : Code → Part → List ℕ
+partBytes c p = cond (p .there) (pieceBytes (piece c (p .bytes))) []
+
+unfoldable pub extentIf : Part → ℕ
+extentIf p = cond (p .there) (extent (length (p .bytes))) 0
 
 -- in the order of writing
 unfoldable pub piecesOf : Parts → List Piece

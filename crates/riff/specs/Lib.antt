@@ -1,3 +1,4 @@
 pub mod Chunks
 pub mod Walk
 pub mod Laying
+pub mod Demands

@@ -12,17 +12,17 @@ use Rattle.units.specs.declared.Refusal.the-variants.{FormatWrong, NotWholeFram
 use Rattle.units.specs.declared.Verdict.{Verdict}
 use Rattle.units.specs.declared.Verdict.the-variants.{Accepted, Refused}
 use Rattle.formats.specs.declared.Format.{Format}
-use Rattle.formats.specs.Format.{formatOf}
-use Rattle.formats.specs.Frames.{wholeBlocks, framesOf}
+use Rattle.formats.specs.Format.{formatOf, formatRule}
+use Rattle.formats.specs.Frames.{wholeBlocks, framesOf, framesRule}
 use Rattle.tables.specs.declared.Cue.{Cue}
 use Rattle.tables.specs.declared.Cues.{Cues}
 use Rattle.tables.specs.declared.Play.{Play}
 use Rattle.tables.specs.declared.Playlist.{Playlist}
-use Rattle.tables.specs.Cues.{noCue, cuesOf}
-use Rattle.tables.specs.Plays.{noPlay, playsOf}
+use Rattle.tables.specs.Cues.{noCue, cuesOf, cuesRule}
+use Rattle.tables.specs.Plays.{noPlay, playsOf, playsRule}
 use Rattle.rules.specs.declared.Record.{Record}
 use Rattle.rules.specs.declared.Reading.{Reading}
-use Rattle.rules.specs.Rules.{fine, formatFine, factFine, cuesFine, playsFine, verdictOf, recordOf, blank, turnedAway, answer, judged}
+use Rattle.rules.specs.Rules.{fine, formatFine, factFine, cuesFine, playsFine, inOrder, verdictOf, recordVerdict, recordOf, blank, turnedAway, answer, judged}
 
 -- ---- form and rule
 module _ (form rule : Bool) {x : Bool} (e : x ≡ form) where
@@ -56,38 +56,62 @@ unfolding recordOf
 record-made fmt n fact cue plst a b d e = simp (b, a, d, e)
 
 -- ---- the verdict, 9 to 13
-module _ (fmt : List ℕ) (n : BytePlace) (fact cue plst : List ℕ) (m : Record) {a : Bool} (e : a ≡ formatFine fmt (m .format)) where
-  pub judge-format : not a ≡ true → Refused FormatWrong ≡ verdictOf fmt n fact cue plst m
-  unfolding verdictOf
+pub of-chunks : (fmt : List ℕ) (n : BytePlace) (fact cue plst : List ℕ) (m : Record) {v : Verdict}
+    → v
+    ≡ inOrder
+    (formatFine fmt (m .format))
+    (wholeBlocks (m .format) n)
+    (factFine fact (m .format) n (m .frames))
+    (cuesFine cue (m .cues) (m .frames))
+    (playsFine plst (m .playlist) (m .cues) (m .frames))
+    → v ≡ verdictOf fmt n fact cue plst m
+unfolding verdictOf
+of-chunks fmt n fact cue plst m e = e
+
+pub of-record : (m : Record) (n : BytePlace) {v : Verdict}
+    → v
+    ≡ inOrder
+    (formatRule (m .format))
+    (wholeBlocks (m .format) n)
+    (framesRule (m .format) n (m .frames))
+    (cuesRule (m .cues) (m .frames))
+    (playsRule (m .playlist) (m .cues) (m .frames))
+    → v ≡ recordVerdict m n
+unfolding recordVerdict
+of-record m n e = e
+
+module _ (a′ b′ d′ i′ j′ : Bool) {a : Bool} (e : a ≡ a′) where
+  pub judge-format : not a ≡ true → Refused FormatWrong ≡ inOrder a′ b′ d′ i′ j′
+  unfolding inOrder
   judge-format t = simp (sym e ∙ not-true a t)
 
-  module _ (t : not a ≡ false) {b : Bool} (f : b ≡ wholeBlocks (m .format) n) where
-    pub judge-blocks : not b ≡ true → Refused NotWholeFrames ≡ verdictOf fmt n fact cue plst m
-    unfolding verdictOf
+  module _ (t : not a ≡ false) {b : Bool} (f : b ≡ b′) where
+    pub judge-blocks : not b ≡ true → Refused NotWholeFrames ≡ inOrder a′ b′ d′ i′ j′
+    unfolding inOrder
     judge-blocks u = simp (sym e ∙ not-false a t, sym f ∙ not-true b u)
 
-    module _ (u : not b ≡ false) {d : Bool} (g : d ≡ factFine fact (m .format) n (m .frames)) where
-      pub judge-fact : not d ≡ true → Refused FactWrong ≡ verdictOf fmt n fact cue plst m
-      unfolding verdictOf
+    module _ (u : not b ≡ false) {d : Bool} (g : d ≡ d′) where
+      pub judge-fact : not d ≡ true → Refused FactWrong ≡ inOrder a′ b′ d′ i′ j′
+      unfolding inOrder
       judge-fact v = simp (sym e ∙ not-false a t, sym f ∙ not-false b u, sym g ∙ not-true d v)
 
-      module _ (v : not d ≡ false) {i : Bool} (h : i ≡ cuesFine cue (m .cues) (m .frames)) where
-        pub judge-cues : not i ≡ true → Refused CuesWrong ≡ verdictOf fmt n fact cue plst m
-        unfolding verdictOf
+      module _ (v : not d ≡ false) {i : Bool} (h : i ≡ i′) where
+        pub judge-cues : not i ≡ true → Refused CuesWrong ≡ inOrder a′ b′ d′ i′ j′
+        unfolding inOrder
         judge-cues w = simp (sym e ∙ not-false a t, sym f ∙ not-false b u, sym g ∙ not-false d v, sym h ∙ not-true i w)
 
-        module _ (w : not i ≡ false) {j : Bool} (k : j ≡ playsFine plst (m .playlist) (m .cues) (m .frames)) where
-          pub judge-plays : not j ≡ true → Refused PlaylistWrong ≡ verdictOf fmt n fact cue plst m
-          unfolding verdictOf
+        module _ (w : not i ≡ false) {j : Bool} (k : j ≡ j′) where
+          pub judge-plays : not j ≡ true → Refused PlaylistWrong ≡ inOrder a′ b′ d′ i′ j′
+          unfolding inOrder
           judge-plays x =
               simp (sym e ∙ not-false a t, sym f ∙ not-false b u, sym g ∙ not-false d v, sym h ∙ not-false i w, sym k ∙ not-true j x)
 
-          pub judge-taken : not j ≡ false → Accepted ≡ verdictOf fmt n fact cue plst m
-          unfolding verdictOf
+          pub judge-taken : not j ≡ false → Accepted ≡ inOrder a′ b′ d′ i′ j′
+          unfolding inOrder
           judge-taken x =
               simp (sym e ∙ not-false a t, sym f ∙ not-false b u, sym g ∙ not-false d v, sym h ∙ not-false i w, sym k ∙ not-false j x)
 
-pub ruleset judging = (judge-format, judge-blocks, judge-fact, judge-cues, judge-plays, judge-taken)
+pub ruleset judging = (of-chunks, of-record, judge-format, judge-blocks, judge-fact, judge-cues, judge-plays, judge-taken)
 
 -- ---- the answer
 module _ (fmt : List ℕ) (n : BytePlace) (fact cue plst : List ℕ) {m : Record} (e : m ≡ recordOf fmt n fact cue plst) {v : Verdict} (f : v ≡ verdictOf fmt n fact cue plst m) where

@@ -1,6 +1,7 @@
 -- The record that a file's chunks make, and the verdict on them. Assumes nothing.
 use Prim.Native.Nat.{ℕ}
-use mathlib.Core.Bool.{Bool, _&&_}
+use mathlib.Core.Path.{_≡_}
+use mathlib.Core.Bool.{Bool, true, _&&_}
 use mathlib.Core.List.{List}
 use lib.ListN.{replicate}
 use Rattle.units.specs.declared.BytePlace.{BytePlace}
@@ -42,14 +43,42 @@ abbrev pub playsFine : List ℕ → Playlist → Cues → Frames → Bool
 playsFine plst p c frames = fine (playsForm plst) (playsRule p c frames)
 
 -- 9 to 13 by number
+unfoldable pub inOrder : Bool → Bool → Bool → Bool → Bool → Verdict
+inOrder format whole fact cues plays =
+    demand format FormatWrong
+    (demand whole NotWholeFrames
+    (demand fact FactWrong
+    (demand cues CuesWrong
+    (demand plays PlaylistWrong
+    Accepted))))
+
+-- of the chunks of a file, whose record they make
 unfoldable pub verdictOf : List ℕ → BytePlace → List ℕ → List ℕ → List ℕ → Record → Verdict
 verdictOf fmt n fact cue plst m =
-    demand (formatFine fmt (m .format)) FormatWrong
-    (demand (wholeBlocks (m .format) n) NotWholeFrames
-    (demand (factFine fact (m .format) n (m .frames)) FactWrong
-    (demand (cuesFine cue (m .cues) (m .frames)) CuesWrong
-    (demand (playsFine plst (m .playlist) (m .cues) (m .frames)) PlaylistWrong
-    Accepted))))
+    inOrder
+    (formatFine fmt (m .format))
+    (wholeBlocks (m .format) n)
+    (factFine fact (m .format) n (m .frames))
+    (cuesFine cue (m .cues) (m .frames))
+    (playsFine plst (m .playlist) (m .cues) (m .frames))
+
+-- of a record to be written with n bytes of sound: the rules alone, as the writer gives each chunk its form
+unfoldable pub recordVerdict : Record → BytePlace → Verdict
+recordVerdict m n =
+    inOrder
+    (formatRule (m .format))
+    (wholeBlocks (m .format) n)
+    (framesRule (m .format) n (m .frames))
+    (cuesRule (m .cues) (m .frames))
+    (playsRule (m .playlist) (m .cues) (m .frames))
+
+-- a record that keeps all the rules
+pub record Writable (m : Record) (n : BytePlace) : Type 0 where
+  pub format : formatRule (m .format) ≡ true
+  pub whole : wholeBlocks (m .format) n ≡ true
+  pub count : framesRule (m .format) n (m .frames) ≡ true
+  pub cues : cuesRule (m .cues) (m .frames) ≡ true
+  pub plays : playsRule (m .playlist) (m .cues) (m .frames) ≡ true
 
 -- the record that is all zero
 abbrev pub blank : Record

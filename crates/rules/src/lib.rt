@@ -1,6 +1,7 @@
 // The record of a WAVE file, and the verdict on its chunks: the refusals 9 to 13, in their order.
 //
-// Everything here goes by the bytes of the chunks, wherever they stood in a file.
+// Everything here goes by the bytes of the chunks, wherever they stood in a file; a record to be written
+// is judged by the same rules.
 use formats::Format;
 use tables::Cues;
 use tables::Playlist;
@@ -10,7 +11,7 @@ use units::Refusal;
 use units::Verdict;
 ghost use mathlib.Core.Path.{_≡_};
 ghost use Prim.Native.Nat.{_<_};
-ghost use Rattle.rules.specs.Rules.{formatFine, factFine, cuesFine, playsFine, verdictOf, blank, turnedAway, recordOf, judged};
+ghost use Rattle.rules.specs.Rules.{formatFine, factFine, cuesFine, playsFine, verdictOf, recordVerdict, blank, turnedAway, recordOf, judged};
 
 // What a WAVE file says besides its sound.
 pub struct Record {
@@ -140,6 +141,37 @@ fn verdict_of(
         return Verdict::Refused(Refusal::CuesWrong);
     }
     let plays_kept = plays_fine(plst, playlist, cues, frames);
+    if !plays_kept {
+        return Verdict::Refused(Refusal::PlaylistWrong);
+    }
+    Verdict::Accepted
+}
+
+// The verdict on a record that is to be written with some bytes of sound.
+pub fn record_verdict(made: Record, sound: BytePlace) -> Verdict
+    ensures { λ r. ⌜ r ≡ recordVerdict made sound ⌝ }
+{
+    let format = made.format;
+    let frames = made.frames;
+    let cues = made.cues;
+    let playlist = made.playlist;
+    let format_kept = formats::format_rule(format);
+    if !format_kept {
+        return Verdict::Refused(Refusal::FormatWrong);
+    }
+    let whole = formats::whole_blocks(format, sound);
+    if !whole {
+        return Verdict::Refused(Refusal::NotWholeFrames);
+    }
+    let frames_kept = formats::frames_rule(format, sound, frames);
+    if !frames_kept {
+        return Verdict::Refused(Refusal::FactWrong);
+    }
+    let cues_kept = tables::cues_rule(cues, frames);
+    if !cues_kept {
+        return Verdict::Refused(Refusal::CuesWrong);
+    }
+    let plays_kept = tables::plays_rule(playlist, cues, frames);
     if !plays_kept {
         return Verdict::Refused(Refusal::PlaylistWrong);
     }

@@ -5,10 +5,10 @@ use mathlib.Core.List.{List, map, _++_, append-nil}
 use Prim.Native.Nat.{ℕ, zero, suc, _+_, _*_, _≤_, _<_}
 use native.Mathlib.Numerals.{add-one}
 use native.Mathlib.Omega.{arith}
-use lib.ListN.{length, getD, set, replicate, length-map, List·getD-map, drop-of-length-le}
+use lib.ListN.{length, getD, set, replicate, length-map, length-set, length-replicate, List·getD-map, drop-of-length-le}
 use lib.Dec.{leb}
 use lib.Seq.{getD-set-other}
-use borrow.Author.Tests.{le-leb, lt-leb, leb-false}
+use borrow.Author.Tests.{le-leb, lt-leb, leb-true, leb-false}
 use Rattle.little.specs.Numbers.{numberAt}
 use Rattle.little.specs.Writing.{front}
 use Rattle.little.proofs.Filling.{Written, front-begins, front-next, front-ends}
@@ -27,6 +27,14 @@ module _ (n : ℕ) where
   pub held-most : 64 < n → 64 ≡ held n
   unfolding held
   held-most h = simp (lt-leb n 64 h)
+
+  pub held-room : held n ≤ 64
+  unfolding held
+  held-room = by (leb n 64) refl
+    where
+      by : (b : Bool) → leb n 64 ≡ b → cond b n 64 ≤ 64
+      by true e = leb-true n 64 e
+      by false e = omega arith
 
 -- ---- one entry
 module _ (s : List ℕ) (at : ℕ) {x y z : ℕ} (e : x ≡ numberAt 4 s at) (f : y ≡ numberAt 4 s (at + 4)) where
@@ -149,3 +157,18 @@ module _ (s : List ℕ) (i : ℕ) where
   plays-zero h =
       let g = held-within (countIn s) in
       rest-zero noPlay (playsIn s) (λ k. playAt s (4 + 12 * k)) (λ k. refl) refl (held (countIn s)) i (omega arith)
+
+-- ---- and a table that was read has all its room
+module _ {A : Type 0} (z : A) (many : ℕ → List A) (entry : ℕ → A) where
+  all-room : ((k : ℕ) → many (suc k) ≡ set (many k) k (entry k)) → many 0 ≡ replicate 64 z → (n : ℕ) → length (many n) ≡ 64
+  all-room more begin zero = ap length begin ∙ length-replicate 64 z
+  all-room more begin (suc n) = ap length (more n) ∙ length-set (many n) n (entry n) ∙ all-room more begin n
+
+module _ (s : List ℕ) where
+  pub cues-whole : length (cuesOf s .list) ≡ 64
+  unfolding cuesOf cuesIn
+  cues-whole = all-room noCue (cuesIn s) (λ k. cueAt s (4 + 24 * k)) (λ k. refl) refl (held (countIn s))
+
+  pub plays-whole : length (playsOf s .list) ≡ 64
+  unfolding playsOf playsIn
+  plays-whole = all-room noPlay (playsIn s) (λ k. playAt s (4 + 12 * k)) (λ k. refl) refl (held (countIn s))

@@ -1,16 +1,22 @@
-// What the chunks `cue ` and `plst` say, and the rules that they must keep.
+// What the chunks `cue ` and `plst` say, the rules that they must keep, and their bytes, as they are
+// written.
 //
 // As in `formats`, a chunk has a value, a form and a rule.
 use codes::Code;
 use units::Donation;
 use units::Frames;
 ghost use mathlib.Core.Path.{_≡_};
-ghost use mathlib.Core.List.{map};
-ghost use Prim.Native.Nat.{_+_, _*_, _≤_};
-ghost use lib.ListN.{length, replicate};
+ghost use mathlib.Core.List.{map, _++_};
+ghost use Prim.Native.Nat.{_+_, _*_, _%_, _≤_};
+ghost use lib.ListN.{length, take, replicate};
+ghost use Rattle.little.specs.Numbers.{bytesOf};
+ghost use Rattle.little.specs.Writing.{Put};
+ghost use Rattle.codes.specs.Codes.{codeBytes};
+ghost use Rattle.codes.specs.declared.Code.the-variants.{Data};
 ghost use Rattle.tables.specs.Cues.{noCue, cueAt, plainCue, cuesIn, cuesOf, cuesForm, nameOf, placeOf, cuesRule};
 ghost use Rattle.tables.specs.Plays.{noPlay, playAt, playsIn, playsOf, playsForm, playable, allPlayable, playsRule};
 ghost use Rattle.tables.specs.Tables.{held};
+ghost use Rattle.tables.specs.Bytes.{entryBytes, cueBytes, cuesBytes, playBytes, playsBytes};
 
 // The most entries that a table may have.
 pub const MOST: u32 = 64;
@@ -314,4 +320,107 @@ pub fn plays_rule(playlist: Playlist, cues: Cues, frames: Frames) -> bool
     let places = places_of(cue_list);
     let list = playlist.list;
     all_playable(list, s, &names[..c], &places[..c], frames)
+}
+
+// ---- writing
+
+// The bytes that a `cue ` takes.
+pub fn cues_size(cues: Cues) -> usize
+    ensures { λ r. ⌜ (r ≡ length (cuesBytes cues)) × (r ≤ 1540) × (r % 2 ≡ 0) ⌝ }
+{
+    4 + 24 * held_of(cues.count)
+}
+
+// Puts the name, the position and the chunk code of a cue point.
+fn put_name(out: &mut [u8], at: usize, cue: Cue)
+    requires { ⌜ at + 12 ≤ length (now out) ⌝ }
+    ensures { λ _. ⌜ Put (now (out .entry)) at (bytesOf 4 (cue .name .0) ++ (bytesOf 4 (cue .position .0) ++ codeBytes Data)) (now (out .exit)) ⌝ }
+{
+    little::put_u32(out, at, cue.name.0);
+    little::put_u32(out, at + 4, cue.position.0);
+    codes::put(out, at + 8, Code::Data);
+}
+
+// Puts the chunk start, the block start and the place of a cue point.
+fn put_place(out: &mut [u8], at: usize, cue: Cue)
+    requires { ⌜ at + 12 ≤ length (now out) ⌝ }
+    ensures { λ _. ⌜ Put (now (out .entry)) at (bytesOf 4 0 ++ (bytesOf 4 0 ++ bytesOf 4 (cue .place .0))) (now (out .exit)) ⌝ }
+{
+    little::put_u32(out, at, 0);
+    little::put_u32(out, at + 4, 0);
+    little::put_u32(out, at + 8, cue.place.0);
+}
+
+// Puts a cue point.
+fn put_cue(out: &mut [u8], at: usize, cue: Cue)
+    requires { ⌜ at + 24 ≤ length (now out) ⌝ }
+    ensures { λ _. ⌜ Put (now (out .entry)) at (cueBytes cue) (now (out .exit)) ⌝ }
+{
+    put_name(out, at, cue);
+    put_place(out, at + 12, cue);
+}
+
+// Puts the first n cue points.
+fn put_cue_list(out: &mut [u8], at: usize, list: [Cue; 64], n: usize)
+    requires { ⌜ (n ≤ 64) × (at + 24 * n ≤ length (now out)) ⌝ }
+    ensures { λ _. ⌜ Put (now (out .entry)) at (entryBytes cueBytes (take n list)) (now (out .exit)) ⌝ }
+{
+    let mut i = 0;
+    while i < n {
+        let cue = list[i];
+        put_cue(out, at + 24 * i, cue);
+        i += 1;
+    }
+}
+
+// Puts a `cue `.
+pub fn put_cues(out: &mut [u8], at: usize, cues: Cues)
+    requires { ⌜ at + length (cuesBytes cues) ≤ length (now out) ⌝ }
+    ensures { λ _. ⌜ Put (now (out .entry)) at (cuesBytes cues) (now (out .exit)) ⌝ }
+{
+    let n = held_of(cues.count);
+    let list = cues.list;
+    little::put_u32(out, at, cues.count);
+    put_cue_list(out, at + 4, list, n);
+}
+
+// The bytes that a `plst` takes.
+pub fn plays_size(playlist: Playlist) -> usize
+    ensures { λ r. ⌜ (r ≡ length (playsBytes playlist)) × (r ≤ 772) × (r % 2 ≡ 0) ⌝ }
+{
+    4 + 12 * held_of(playlist.count)
+}
+
+// Puts a playlist entry.
+fn put_play(out: &mut [u8], at: usize, play: Play)
+    requires { ⌜ at + 12 ≤ length (now out) ⌝ }
+    ensures { λ _. ⌜ Put (now (out .entry)) at (playBytes play) (now (out .exit)) ⌝ }
+{
+    little::put_u32(out, at, play.name.0);
+    little::put_u32(out, at + 4, play.length.0);
+    little::put_u32(out, at + 8, play.times);
+}
+
+// Puts the first n playlist entries.
+fn put_play_list(out: &mut [u8], at: usize, list: [Play; 64], n: usize)
+    requires { ⌜ (n ≤ 64) × (at + 12 * n ≤ length (now out)) ⌝ }
+    ensures { λ _. ⌜ Put (now (out .entry)) at (entryBytes playBytes (take n list)) (now (out .exit)) ⌝ }
+{
+    let mut i = 0;
+    while i < n {
+        let play = list[i];
+        put_play(out, at + 12 * i, play);
+        i += 1;
+    }
+}
+
+// Puts a `plst`.
+pub fn put_plays(out: &mut [u8], at: usize, playlist: Playlist)
+    requires { ⌜ at + length (playsBytes playlist) ≤ length (now out) ⌝ }
+    ensures { λ _. ⌜ Put (now (out .entry)) at (playsBytes playlist) (now (out .exit)) ⌝ }
+{
+    let n = held_of(playlist.count);
+    let list = playlist.list;
+    little::put_u32(out, at, playlist.count);
+    put_play_list(out, at + 4, list, n);
 }

@@ -1,0 +1,139 @@
+-- Demand 3 for the approval copy: what decoding its file puts out is what is heard of the blocks that encoding wrote.
+-- Assumes nothing.
+use mathlib.Core.Path.{_≡_, refl, sym, ap, _∙_, subst}
+use mathlib.Core.Bool.{true}
+use mathlib.Core.List.{List}
+use Prim.Native.Nat.{ℕ, _+_, _-_, _*_, _/_, _%_, _<_}
+use native.Mathlib.Nat.{mul-div-cancel, mod-lt, div-add-mod'}
+use native.Mathlib.Omega.{arith}
+use lib.IntN.{ℤ, pos}
+use lib.ListN.{length, getD}
+use Rattle.lists.proofs.Laws.{every-all}
+use Rattle.units.specs.declared.Verdict.{Verdict}
+use Rattle.units.specs.declared.Verdict.the-variants as verdict
+use Rattle.formats.specs.declared.Format.{Format}
+use Rattle.formats.specs.Frames.{Sounding}
+use Rattle.reader.specs.Content.{Content}
+use Rattle.reader.proofs.Kept.{content-kept}
+use Rattle.steps.specs.Quality.{Faithful}
+use Rattle.blocks.specs.Block.{samplesPerBlock, framesIn, headersFine}
+use Rattle.ima.specs.declared.Written.{Written}
+use Rattle.ima.specs.declared.Encoded.the-variants.{Blocks}
+use Rattle.ima.specs.Encoding.{blocksFor, encodedBytes, encodeVerdict}
+use Rattle.ima.specs.Answer.{writtenOf, answer, encoding}
+use Rattle.ima.specs.Demands.{frameOf, blockIn, heardAt, Heard, Quality}
+use Rattle.ima.proofs.Settling.{Codable}
+use Rattle.ima.proofs.Answers.{Settled, settled-says}
+use Rattle.ima.proofs.Blocks.{per-some, begun}
+use Rattle.ima.proofs.Frames.{block-among}
+use Rattle.ima.proofs.Demands.{quality}
+use Rattle.decoder.specs.Sound.{channelSound, blockFrames, blockFine, blockCount, blockAt, blockSound, wholeSound, dataFine}
+use Rattle.decoder.proofs.Whole.{whole-long}
+use Rattle.sound.specs.Decoding.{wholeAnswer, decoding, wholeIn, fileSound}
+use Rattle.sound.proofs.Checks.{whole-fine}
+use Rattle.approval.specs.Approval.{samplesOf, approvalFormat, approvalRecord}
+use Rattle.approval.specs.Demands.{Approved}
+use Rattle.approval.proofs.Rules.{samples-per, blocks-are}
+use Rattle.approval.proofs.Frames.{frame-of-whole}
+
+-- ---- an answer that is blocks
+accepted : (v : Verdict) (u w : Written) → answer v u ≡ Blocks w → v ≡ verdict.Accepted
+accepted verdict.Accepted u w e = refl
+accepted (verdict.Refused r) u w e = let z : _≡_ {A = ℕ} 0 1 = cc in absurd (omega arith)
+
+encoded-says : (s : List ℤ) (c a room : ℕ) (w : Written) → encoding s c a room ≡ Blocks w → Settled (length s) c a room
+unfolding encoding
+encoded-says s c a room w e =
+    settled-says (length s) c a room (accepted (encodeVerdict (length s) c a room) (writtenOf c a s) w e)
+
+-- ---- a block of the copy is an IMA block
+module _ (c rate a : ℕ) where
+  block-is : (w : List ℕ) (k : ℕ) → blockAt (approvalFormat c rate a) w k ≡ blockIn a w k
+  unfolding blockAt blockIn approvalFormat
+  block-is w k = refl
+
+  fine-is : (b : List ℕ) → blockFine (approvalFormat c rate a) b ≡ headersFine c b
+  unfolding blockFine approvalFormat
+  fine-is b = refl
+
+  sound-is : (n : ℕ) (b : List ℕ) → blockFrames (approvalFormat c rate a) n b ≡ framesIn c n b
+  unfolding blockFrames channelSound framesIn approvalFormat
+  sound-is n b = refl
+
+module _ (s : List ℤ) (c rate a : ℕ) (v : Codable c a) where
+  abbrev bytes : List ℕ
+  bytes = encodedBytes c a s
+
+  abbrev format : Format
+  format = approvalFormat c rate a
+
+  counted : {k : ℕ} → k < blocksFor c a (length s) → k < blockCount format bytes
+  unfolding blockCount
+  counted h = omega (arith, blocks-are v s rate)
+
+  among : {k : ℕ} → k < blockCount format bytes → k < blocksFor c a (length s)
+  unfolding blockCount
+  among h = omega (arith, blocks-are v s rate)
+
+  module _ {left right : ℕ} (q : Heard s c a bytes left right) where
+    -- no block gives 15
+    headers-fine : dataFine format bytes ≡ true
+    unfolding dataFine
+    headers-fine =
+        let p : ℕ = samplesPerBlock c a in
+        every-all (λ k. blockFine format (blockAt format bytes k)) 0 (blockCount format bytes)
+        (λ k i l.
+        let e : k ≡ k * p / p = sym (mul-div-cancel k (per-some c a)) in
+        fine-is c rate a (blockAt format bytes k)
+        ∙ ap (headersFine c) (block-is c rate a bytes k)
+        ∙ ap (λ (m : ℕ). headersFine c (blockIn a bytes m)) e
+        ∙ q .fine (k * p) (begun c a (length s) k (among (omega arith))))
+
+    -- frame f of a channel of the whole sound is what is heard of it
+    frame-heard : Sounding format (record { 0 = length s / c }) bytes → (ch f : ℕ) → ch < c → f < length s / c
+        → getD (wholeSound format (length s / c) bytes) (c * f + ch) (pos 0) ≡ heardAt c a bytes ch f .last
+    unfolding approvalFormat blockSound
+    frame-heard z ch f l h =
+        let p : ℕ = samplesPerBlock c a in
+        let k : ℕ = f / p in
+        let j : ℕ = f % p in
+        let n : samplesOf c a ≡ p = samples-per v in
+        let u : f / p * p + f % p ≡ f = div-add-mod' f p in
+        let e : k * samplesOf c a + j ≡ f = ap (λ (m : ℕ). k * m + j) n ∙ u in
+        ap (λ (m : ℕ). getD (wholeSound format (length s / c) bytes) (c * m + ch) (pos 0)) (sym e)
+        ∙ frame-of-whole z k j ch (counted (block-among c a (length s) f h)) (omega (arith, mod-lt f (per-some c a))) l
+        (omega arith)
+        ∙ ap (λ (xs : List ℤ). getD xs (c * j + ch) (pos 0))
+        (sound-is c rate a (samplesOf c a) (blockAt format bytes k)
+        ∙ ap (framesIn c (samplesOf c a)) (block-is c rate a bytes k)
+        ∙ ap (λ (m : ℕ). framesIn c m (blockIn a bytes k)) n)
+        ∙ q .sounded ch f l h
+
+-- ---- the file
+pub approved : Approved
+unfolding Approved approvalRecord approvalFormat Quality decoding fileSound frameOf
+approved s c rate a room most w file z e held enough =
+    let t : Settled (length s) c a room = encoded-says s c a room w e in
+    let bytes : List ℕ = encodedBytes c a s in
+    let q : Heard s c a bytes (w .left .0) (w .right .0) = quality s c a room w z e in
+    let kept = content-kept file (sym held) in
+    let size : length s / c * c ≡ length s = omega (arith, div-add-mod' (length s) c, t .whole) in
+    let same : (ch f : ℕ) → ch < c → f < length s / c
+    → frameOf c (fileSound file) ch f ≡ heardAt c a bytes ch f .last =
+    λ ch f l h.
+    ap (λ (x : Content). getD (wholeIn x) (c * f + ch) (pos 0)) held
+    ∙ frame-heard s c rate a (t .fine) q kept ch f l h in
+    record {
+      frames =
+          ap (λ (x : Content). wholeAnswer x most) held
+          ∙ sym (whole-fine (approvalFormat c rate a) (length s / c) bytes most (omega arith) {fine = true}
+          (sym (headers-fine s c rate a (t .fine) q)) refl);
+      long = ap (λ (x : Content). length (wholeIn x)) held ∙ whole-long kept ∙ size;
+      decoded = same;
+      opening = λ ch f l h g. same ch f l h ∙ q .opening ch f l h g;
+      later = λ ch f l h g.
+          subst (λ (y : ℤ). Faithful (heardAt c a bytes ch (f - 1)) (frameOf c s ch f) y) (sym (same ch f l h))
+          (q .later ch f l h g);
+      succession = q .succession;
+      quality = q;
+    }

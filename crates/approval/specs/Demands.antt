@@ -1,0 +1,75 @@
+-- Demand 3 for the approval copy: its record may be written with the blocks that encoding made, and whoever decodes the
+-- file hears the sound as well as the demand says. Assumes nothing.
+use Prim.Native.Nat.{ℕ, _-_, _/_, _%_, _≤_, _<_}
+use mathlib.Core.Path.{_≡_}
+use mathlib.Core.Bool.{true, false}
+use mathlib.Core.List.{List}
+use lib.IntN.{ℤ}
+use lib.ListN.{length}
+use Rattle.units.specs.declared.BytePlace.{BytePlace}
+use Rattle.formats.specs.Format.{formatRule}
+use Rattle.formats.specs.Frames.{wholeBlocks, framesRule}
+use Rattle.tables.specs.Cues.{cuesRule}
+use Rattle.tables.specs.Plays.{playsRule}
+use Rattle.rules.specs.declared.Record.{Record}
+use Rattle.reader.specs.Content.{holds, contentOf}
+use Rattle.steps.specs.Quality.{Sixteen, Faithful, atMost}
+use Rattle.blocks.specs.Block.{samplesPerBlock}
+use Rattle.ima.specs.declared.Written.{Written}
+use Rattle.ima.specs.declared.Encoded.the-variants.{Blocks}
+use Rattle.ima.specs.Encoding.{encodedBytes, codable}
+use Rattle.ima.specs.Answer.{encoding}
+use Rattle.ima.specs.Demands.{frameOf, heardAt, chasedFrames, Heard}
+use Rattle.sound.specs.declared.Decoded.the-variants.{Frames}
+use Rattle.sound.specs.Decoding.{decoding, fileSound}
+use Rattle.approval.specs.Approval.{approvalRecord}
+
+-- the record of the approval copy of a sound s
+abbrev pub recordFor : List ℤ → ℕ → ℕ → ℕ → Record
+recordFor s c rate a = approvalRecord c rate a (record { 0 = length s / c })
+
+-- ---- what writing asks of a record m with n bytes of sound: 9 to 13
+pub record Writable (m : Record) (n : BytePlace) : Type 0 where
+  pub format : formatRule (m .format) ≡ true
+  pub whole : wholeBlocks (m .format) n ≡ true
+  pub count : framesRule (m .format) n (m .frames) ≡ true
+  pub cues : cuesRule (m .cues) (m .frames) ≡ true
+  pub plays : playsRule (m .playlist) (m .cues) (m .frames) ≡ true
+
+-- the record of every copy keeps the rules, with the blocks of its sound
+unfoldable pub RulesHold : Type 0
+RulesHold =
+    (s : List ℤ) (c rate a : ℕ) → codable c a ≡ true → 1 ≤ rate → rate ≤ 192000
+    → Writable (recordFor s c rate a) (record { 0 = length (encodedBytes c a s) })
+
+-- but not where encoding refuses the channels or the align: that is 9
+unfoldable pub RuleBroken : Type 0
+RuleBroken = (s : List ℤ) (c rate a : ℕ) → codable c a ≡ false → formatRule (recordFor s c rate a .format) ≡ false
+
+-- ---- a file decodes as a sound s of c channels, coded in blocks of align a, whose chased samples are told
+pub record Copy (s : List ℤ) (c a : ℕ) (told : Written) (file : List ℕ) (room : ℕ) : Type 0 where
+  -- all its frames come back
+  pub frames : decoding file room ≡ Frames (record { 0 = length s / c })
+  pub long : length (fileSound file) ≡ length s
+  -- what is decoded is what the demand speaks of
+  pub decoded : (ch f : ℕ) → ch < c → f < length s / c
+      → frameOf c (fileSound file) ch f ≡ heardAt c a (encodedBytes c a s) ch f .last
+  -- in each channel the first sample of a block is exact
+  pub opening : (ch f : ℕ) → ch < c → f < length s / c → f % samplesPerBlock c a ≡ 0
+      → frameOf c (fileSound file) ch f ≡ frameOf c s ch f
+  -- a later one is within an eighth of the step, rounded down, plus 2 of the original; or it is chased, and then
+  -- strictly nearer than its prediction was and not beyond the original
+  pub later : (ch f : ℕ) → ch < c → f < length s / c → 0 < f % samplesPerBlock c a
+      → Faithful (heardAt c a (encodedBytes c a s) ch (f - 1)) (frameOf c s ch f) (frameOf c (fileSound file) ch f)
+  -- no channel has 12 chased samples in succession
+  pub succession : (ch : ℕ) → ch < c → atMost 11 (chasedFrames c a s (encodedBytes c a s) ch) ≡ true
+  -- and all else that the demand says, the told counts among it
+  pub quality : Heard s c a (encodedBytes c a s) (told .left .0) (told .right .0)
+
+-- so it is for every sound of 16-bit samples that encoding accepts, and every file that holds its blocks under the
+-- record of the copy
+unfoldable pub Approved : Type 0
+Approved =
+    (s : List ℤ) (c rate a room most : ℕ) (w : Written) (file : List ℕ) → Sixteen s → encoding s c a room ≡ Blocks w
+    → contentOf file ≡ holds (recordFor s c rate a) (encodedBytes c a s)
+    → length s ≤ most → Copy s c a w file most

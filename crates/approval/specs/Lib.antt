@@ -1,0 +1,2 @@
+pub mod Approval
+pub mod Demands

@@ -1,0 +1,61 @@
+// The approval copy that a donor gets: the record of its file, a sound in IMA blocks.
+use formats::Format;
+use formats::IMA;
+use rules::Record;
+use tables::Cues;
+use tables::Playlist;
+use units::Frames;
+ghost use mathlib.Core.Path.{_≡_};
+ghost use Rattle.approval.specs.Approval.{samplesOf, approvalRecord};
+
+// The samples of an IMA block in each channel; 0, where there are no blocks of so many channels and
+// this align.
+fn samples_of(channels: u16, align: u16) -> u16
+    ensures { λ r. ⌜ r ≡ samplesOf channels align ⌝ }
+{
+    if channels < 1 {
+        return 0;
+    }
+    if 2 < channels {
+        return 0;
+    }
+    if align % (4 * channels) != 0 {
+        return 0;
+    }
+    if align < 8 * channels {
+        return 0;
+    }
+    if 4096 < align {
+        return 0;
+    }
+    (align - 4 * channels) * 2 / channels + 1
+}
+
+// The record of an approval copy: IMA sound of some channels at a rate, in blocks of an align, so many
+// frames; no cues and no playlist.
+pub fn record_of(channels: u16, rate: u32, align: u16, frames: Frames) -> Record
+    ensures { λ r. ⌜ r ≡ approvalRecord channels rate align frames ⌝ }
+{
+    let format = Format {
+        tag: IMA,
+        channels: channels,
+        rate: rate,
+        bits: 4,
+        align: align,
+        samples: samples_of(channels, align),
+    };
+    let cues = Cues {
+        count: 0,
+        list: tables::no_cues(),
+    };
+    let playlist = Playlist {
+        count: 0,
+        list: tables::no_plays(),
+    };
+    Record {
+        format: format,
+        frames: frames,
+        cues: cues,
+        playlist: playlist,
+    }
+}

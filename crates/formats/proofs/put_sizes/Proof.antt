@@ -1,0 +1,11 @@
+-- Three numbers, one behind the other.
+use borrow.Author.Needs.{needs}
+use Rattle.formats.proofs.Putting.{putting}
+use Rattle.formats.proofs.put_sizes.Statement.{statement}
+use Rattle.formats.proofs.put_sizes.Tie as tie
+
+pub put-sizes-spec : {M : Type 1} → statement M
+put-sizes-spec =
+    tie.close
+    (tie.spec (λ c κs. search needs) (λ c κs. search needs) (λ c. search needs) (λ c κs. search needs)
+    (λ c. search needs) (λ c κs. search needs) (λ c. search needs) (λ c. search (needs, putting)))

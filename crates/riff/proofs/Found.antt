@@ -1,0 +1,114 @@
+-- What is read where bytes were laid: a number, a code, a chunk. The bytes at a place are `drop at s`. Assumes nothing.
+use mathlib.Core.Path.{_≡_, refl, sym, ap, _∙_}
+use mathlib.Core.Bool.{true}
+use mathlib.Core.List.{List, _++_, append-assoc}
+use Prim.Native.Nat.{ℕ, _+_, _%_, _≤_, _<_}
+use native.Mathlib.Omega.{arith}
+use lib.Dec.{lit<}
+use lib.ListN.{length, take, drop, length-append, length-drop}
+use lib.Seq.{take-at, drop-at, drop-drop}
+use borrow.Author.Tests.{eq-eqb}
+use Rattle.little.specs.Numbers.{numberIn, numberAt, bytesOf}
+use Rattle.little.proofs.Reading.{number-first}
+use Rattle.codes.specs.Codes.{codeNumber, isAt, codeBytes}
+use Rattle.codes.specs.declared.Code.{Code}
+use Rattle.codes.specs.declared.Code.the-variants as code
+use Rattle.riff.specs.declared.Kind.{Kind}
+use Rattle.riff.specs.declared.Kind.the-variants.{Format, Sound, Fact, Cues, Plays, Listing, Other}
+use Rattle.riff.specs.Chunks.{kindAt}
+use Rattle.riff.specs.Laying.{piece, headBytes, padBytes, pieceBytes}
+use Rattle.riff.proofs.Laying.{length-code, length-head, length-pad, length-piece}
+
+-- ---- at a place
+module _ (s : List ℕ) (at : ℕ) where
+  -- behind what stands there
+  pub behind : (xs ys : List ℕ) (n : ℕ) → length xs ≡ n → drop at s ≡ xs ++ ys → drop (at + n) s ≡ ys
+  behind xs ys n l e = sym (drop-drop n at s) ∙ ap (drop n) e ∙ drop-at xs ys n l
+
+  pub number-laid : (v : ℕ) (ys : List ℕ) → v < 4294967296 → drop at s ≡ bytesOf 4 v ++ ys → numberAt 4 s at ≡ v
+  unfolding numberAt
+  number-laid v ys h e = ap (λ (l : List ℕ). numberIn (take 4 l)) e ∙ number-first 4 v ys h
+
+-- ---- a code
+code-fits : (c : Code) → codeNumber c < 4294967296
+code-fits code.Riff = lit< tt
+code-fits code.Wave = lit< tt
+code-fits code.Format = lit< tt
+code-fits code.Data = lit< tt
+code-fits code.Fact = lit< tt
+code-fits code.Cue = lit< tt
+code-fits code.Playlist = lit< tt
+code-fits code.Listing = lit< tt
+code-fits code.WaveList = lit< tt
+
+-- what a chunk with a code is to the walk
+abbrev pub kindOf : Code → Kind
+kindOf code.Riff = Other
+kindOf code.Wave = Other
+kindOf code.Format = Format
+kindOf code.Data = Sound
+kindOf code.Fact = Fact
+kindOf code.Cue = Cues
+kindOf code.Playlist = Plays
+kindOf code.Listing = Listing
+kindOf code.WaveList = Other
+
+module _ (s : List ℕ) (at : ℕ) where
+  pub code-laid : (c : Code) (ys : List ℕ) → drop at s ≡ codeBytes c ++ ys → numberAt 4 s at ≡ codeNumber c
+  unfolding codeBytes
+  code-laid c ys e = number-laid s at (codeNumber c) ys (code-fits c) e
+
+  pub stands : (c : Code) (ys : List ℕ) → drop at s ≡ codeBytes c ++ ys → isAt s at c ≡ true
+  unfolding isAt
+  stands c ys e = eq-eqb (numberAt 4 s at) (codeNumber c) (code-laid c ys e)
+
+  kind-by : (c : Code) → numberAt 4 s at ≡ codeNumber c → kindAt s at ≡ kindOf c
+  unfolding kindAt isAt
+  kind-by code.Riff e = simp e
+  kind-by code.Wave e = simp e
+  kind-by code.Format e = simp e
+  kind-by code.Data e = simp e
+  kind-by code.Fact e = simp e
+  kind-by code.Cue e = simp e
+  kind-by code.Playlist e = simp e
+  kind-by code.Listing e = simp e
+  kind-by code.WaveList e = simp e
+
+  pub kind-laid : (c : Code) (ys : List ℕ) → drop at s ≡ codeBytes c ++ ys → kindAt s at ≡ kindOf c
+  kind-laid c ys e = kind-by c (code-laid c ys e)
+
+-- ---- a chunk
+module _ (s : List ℕ) (at : ℕ) (c : Code) (bytes rest : List ℕ) (e : drop at s ≡ pieceBytes (piece c bytes) ++ rest) where
+  abbrev size : ℕ
+  size = length bytes
+
+  -- its head, its bytes and its pad, and then the rest
+  in-parts : drop at s ≡ headBytes c size ++ (bytes ++ (padBytes size ++ rest))
+  unfolding pieceBytes
+  in-parts =
+      e
+      ∙ append-assoc (headBytes c size) (bytes ++ padBytes size) rest
+      ∙ ap (λ (l : List ℕ). headBytes c size ++ l) (append-assoc bytes (padBytes size) rest)
+
+  head-parts : drop at s ≡ codeBytes c ++ (bytesOf 4 size ++ (bytes ++ (padBytes size ++ rest)))
+  unfolding headBytes
+  head-parts = in-parts ∙ append-assoc (codeBytes c) (bytesOf 4 size) (bytes ++ (padBytes size ++ rest))
+
+  data-there : drop (at + 8) s ≡ bytes ++ (padBytes size ++ rest)
+  data-there = behind s at (headBytes c size) _ 8 (length-head c size) in-parts
+
+  pub kind-there : kindAt s at ≡ kindOf c
+  kind-there = kind-laid s at c _ head-parts
+
+  pub size-there : size < 4294967296 → numberAt 4 s (at + 4) ≡ size
+  size-there h = number-laid s (at + 4) size _ h (behind s at (codeBytes c) _ 4 (length-code c) head-parts)
+
+  pub bytes-there : take size (drop (at + 8) s) ≡ bytes
+  bytes-there = ap (take size) data-there ∙ take-at bytes (padBytes size ++ rest) size refl
+
+  pub rest-there : drop (at + 8 + size + size % 2) s ≡ rest
+  rest-there = behind s (at + 8 + size) (padBytes size) rest (size % 2) (length-pad size) (behind s (at + 8) bytes _ size refl data-there)
+
+  pub fits-there : at ≤ length s → at + 8 + size + size % 2 ≤ length s
+  fits-there h =
+      omega (arith, length-drop at s, ap length e, length-append (pieceBytes (piece c bytes)) rest, length-piece (piece c bytes))

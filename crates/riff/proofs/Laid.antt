@@ -1,0 +1,128 @@
+-- A laid file reads back: the walk meets its chunks one by one, and what is left of the file are the chunks that are left.
+-- Assumes nothing.
+use mathlib.Core.Path.{_≡_, refl, sym, ap, _∙_, subst}
+use mathlib.Core.Bool.{Bool, true, false, cond}
+use mathlib.Core.List.{List, [], _∷_, _++_, append-assoc}
+use Prim.Native.Nat.{ℕ, _+_, _%_, _≤_}
+use native.Mathlib.Omega.{arith}
+use lib.ListN.{length, drop, length-drop}
+use Rattle.little.specs.Numbers.{numberAt, bytesOf}
+use Rattle.little.proofs.Reading.{length-bytes}
+use Rattle.codes.specs.Codes.{codeBytes}
+use Rattle.codes.specs.declared.Code.{Code}
+use Rattle.codes.specs.declared.Code.the-variants.{Riff, Wave, Format, Data, Fact, Cue, Playlist}
+use Rattle.units.specs.declared.Verdict.the-variants.{Accepted}
+use Rattle.riff.specs.declared.Place.{Place}
+use Rattle.riff.specs.declared.Spot.{Spot}
+use Rattle.riff.specs.declared.Spot.the-variants.{At, Missing}
+use Rattle.riff.specs.declared.Directory.{Directory}
+use Rattle.riff.specs.declared.Walked.the-variants.{Whole}
+use Rattle.riff.specs.Chunks.{headVerdict, spotOf, isThere, directory, keep, early, waveList}
+use Rattle.riff.specs.Walk.{nothingYet, walkOf, partOf}
+use Rattle.riff.specs.Laying.{Piece, piece, headBytes, bodyBytes, riffBytes, fileBytes, Part, Parts, given, piecesOf}
+use Rattle.riff.specs.Demands.{Reads}
+use Rattle.riff.proofs.Heading.{head-right}
+use Rattle.riff.proofs.Placing.{place-whole, step-on}
+use Rattle.riff.proofs.Walking.{Rest, walk-begins, walk-on, walk-ends, open-walks}
+use Rattle.riff.proofs.Laying.{length-code, length-file, even-body}
+use Rattle.riff.proofs.Found.{behind, number-laid, stands, kindOf, kind-there, size-there, bytes-there, rest-there, fits-there}
+
+-- ---- the header
+module _ (ps : List Piece) where
+  abbrev file : List ℕ
+  file = fileBytes ps
+
+  abbrev size : ℕ
+  size = 4 + length (bodyBytes ps)
+
+  in-parts : drop 0 file ≡ codeBytes Riff ++ (bytesOf 4 size ++ (codeBytes Wave ++ bodyBytes ps))
+  unfolding fileBytes riffBytes headBytes
+  in-parts =
+      append-assoc (codeBytes Riff ++ bytesOf 4 size) (codeBytes Wave) (bodyBytes ps)
+      ∙ append-assoc (codeBytes Riff) (bytesOf 4 size) (codeBytes Wave ++ bodyBytes ps)
+
+  after-riff : drop 4 file ≡ bytesOf 4 size ++ (codeBytes Wave ++ bodyBytes ps)
+  after-riff = behind file 0 (codeBytes Riff) _ 4 (length-code Riff) in-parts
+
+  after-size : drop 8 file ≡ codeBytes Wave ++ bodyBytes ps
+  after-size = behind file 4 (bytesOf 4 size) _ 4 (length-bytes 4 size) after-riff
+
+  after-wave : drop 12 file ≡ bodyBytes ps
+  after-wave = behind file 8 (codeBytes Wave) _ 4 (length-code Wave) after-size
+
+  accepted : length file ≤ 1073741824 → Accepted ≡ headVerdict file
+  accepted limit =
+      let l = length-file ps in
+      let n : size ≡ numberAt 4 file 4 = sym (number-laid file 4 size _ (omega arith) after-riff) in
+      head-right file (omega arith) limit (sym (stands file 0 Riff _ in-parts)) refl (sym (stands file 8 Wave _ after-size)) refl n
+      (omega (arith, even-body ps)) (omega arith)
+
+-- ---- the walk of s stands at a place with the directory d, and the chunks ps are left
+record Stand (s : List ℕ) (at : ℕ) (d : Directory) (ps : List Piece) : Type 0 where
+  pub rest : Rest s at d
+  pub upto : at ≤ length s
+  pub left : drop at s ≡ bodyBytes ps
+
+stand-begins : (ps : List Piece) → Stand (fileBytes ps) 12 nothingYet ps
+stand-begins ps = record { rest = walk-begins (fileBytes ps) refl; upto = omega (arith, length-file ps); left = after-wave ps }
+
+stand-ends : {s : List ℕ} {at : ℕ} {d : Directory} → Stand s at d [] → Whole d ≡ walkOf s
+unfolding bodyBytes
+stand-ends {s} {at} w = walk-ends (w .rest) (omega (arith, length-drop at s, ap length (w .left)))
+
+module _ (s : List ℕ) (limit : length s ≤ 1073741824) {R : Type 0} where
+  -- the next chunk is met
+  stand-on : {at : ℕ} {d : Directory} (c : Code) (bytes : List ℕ) {ps : List Piece} → Stand s at d (piece c bytes ∷ ps)
+      → spotOf d (kindOf c) ≡ Missing → early d (kindOf c) ≡ false → ((p : Place) → waveList s p (kindOf c) ≡ false)
+      → ((p : Place) → partOf s (At p) [] ≡ bytes → Stand s (p .next .0) (keep d p (kindOf c)) ps → R) → R
+  unfolding bodyBytes
+  stand-on {at} {d} c bytes {ps} w new late plain go =
+      let n : ℕ = length bytes in
+      let f = fits-there s at c bytes (bodyBytes ps) (w .left) (w .upto) in
+      let b = size-there s at c bytes (bodyBytes ps) (w .left) (omega arith) in
+      let k = kind-there s at c bytes (bodyBytes ps) (w .left) in
+      let p : Place = record { kind = kindOf c; start = record { 0 = at + 8 }; size = record { 0 = n }; next = record { 0 = at + 8 + n + n % 2 } } in
+      let a = place-whole s (record { 0 = at }) (omega arith) (omega arith) (sym b) f (sym k) in
+      let t = step-on s (record { 0 = at }) d a refl refl (sym (ap isThere new)) refl (sym late) refl (sym (plain p)) refl in
+      go p (bytes-there s at c bytes (bodyBytes ps) (w .left))
+      (record { rest = walk-on (w .rest) (omega arith) t refl refl; upto = f; left = rest-there s at c bytes (bodyBytes ps) (w .left) })
+
+  -- the next chunk is met where it is written; the directory then holds its spot
+  stand-given : {at : ℕ} (c : Code) (x : Part) {ps : List Piece} (hold : Spot → Directory) → Stand s at (hold Missing) (given c x ps)
+      → ((p : Place) → hold (At p) ≡ keep (hold Missing) p (kindOf c))
+      → spotOf (hold Missing) (kindOf c) ≡ Missing → early (hold Missing) (kindOf c) ≡ false → ((p : Place) → waveList s p (kindOf c) ≡ false)
+      → ((to : ℕ) (spot : Spot) → ((absent : List ℕ) → partOf s spot absent ≡ cond (x .there) (x .bytes) absent) → Stand s to (hold spot) ps → R)
+      → R
+  unfolding given
+  stand-given {at} c x {ps} hold w kept new late plain = by (x .there) w
+    where
+      by : (b : Bool) → Stand s at (hold Missing) (cond b (piece c (x .bytes) ∷ ps) ps)
+          → ((to : ℕ) (spot : Spot) → ((absent : List ℕ) → partOf s spot absent ≡ cond b (x .bytes) absent) → Stand s to (hold spot) ps → R)
+          → R
+      by true v go =
+          stand-on c (x .bytes) v new late plain
+          (λ p e u. go (p .next .0) (At p) (λ absent. e) (subst (λ (d : Directory). Stand s (p .next .0) d ps) (sym (kept p)) u))
+      by false v go = go at Missing (λ absent. refl) v
+
+-- ---- the chunks of a WAVE file, in the order of writing
+pub laid-reads : (p : Parts) → length (fileBytes (piecesOf p)) ≤ 1073741824 → Reads (fileBytes (piecesOf p)) p
+unfolding piecesOf
+laid-reads p limit =
+    let s : List ℕ = fileBytes (piecesOf p) in
+    stand-on s limit Format (p .format) (stand-begins (piecesOf p)) refl refl (λ q. refl)
+    (λ f ef uf. stand-given s limit Fact (p .fact) (λ x. directory (At f) Missing x Missing Missing) uf (λ q. refl) refl refl (λ q. refl)
+    (λ a x ex ux. stand-given s limit Cue (p .cues) (λ y. directory (At f) Missing x y Missing) ux (λ q. refl) refl refl (λ q. refl)
+    (λ b y ey uy. stand-given s limit Playlist (p .plays) (λ z. directory (At f) Missing x y z) uy (λ q. refl) refl refl (λ q. refl)
+    (λ c z ez uz. stand-on s limit Data (p .sound) uz refl refl (λ q. refl)
+    (λ g eg ug.
+    record {
+      places = directory (At f) (At g) x y z;
+      walked = sym (open-walks s refl (sym (accepted (piecesOf p) limit)) (stand-ends ug));
+      formatThere = refl;
+      soundThere = refl;
+      format = ef;
+      sound = eg;
+      fact = ex;
+      cues = ey;
+      plays = ez;
+    })))))

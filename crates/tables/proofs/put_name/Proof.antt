@@ -1,0 +1,11 @@
+-- Three numbers, one behind the other.
+use borrow.Author.Needs.{needs}
+use Rattle.tables.proofs.Putting.{putting}
+use Rattle.tables.proofs.put_name.Statement.{statement}
+use Rattle.tables.proofs.put_name.Tie as tie
+
+pub put-name-spec : {M : Type 1} → statement M
+put-name-spec =
+    tie.close
+    (tie.spec (λ c κs. search needs) (λ c. search needs) (λ c κs. search needs) (λ c. search needs)
+    (λ c κs. search needs) (λ c. search needs) (λ c. search (needs, putting)))

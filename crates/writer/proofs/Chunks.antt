@@ -1,0 +1,133 @@
+-- A chunk is put as its head and then its data; the puts are one write of its bytes. Assumes nothing.
+use mathlib.Core.Path.{_≡_, refl, sym, ap, _∙_, subst}
+use mathlib.Core.Bool.{Bool, true, false, not}
+use mathlib.Core.List.{List, [], _∷_, _++_, append-nil}
+use Prim.Native.Nat.{ℕ, _+_, _%_, _≤_, _<_}
+use native.Mathlib.Omega.{arith}
+use lib.Dec.{leb}
+use lib.ListN.{length, set, length-append}
+use borrow.Author.Tests.{lt-leb, le-leb, not-true, not-false}
+use Rattle.little.specs.Writing.{Put}
+use Rattle.little.proofs.Filling.{put-nothing, put-next, put-long, one-store}
+use Rattle.units.specs.declared.Frames.{Frames}
+use Rattle.codes.specs.declared.Code.{Code}
+use Rattle.codes.specs.declared.Code.the-variants as code
+use Rattle.riff.specs.Laying.{Part, headBytes, padBytes, pieceBytes, partBytes, piece, extent, extentIf}
+use Rattle.riff.proofs.Laying.{length-head, length-pad, length-piece}
+use Rattle.formats.specs.declared.Format.{Format}
+use Rattle.formats.specs.Frames.{needsFact}
+use Rattle.formats.specs.Bytes.{formatBytes, factBytes}
+use Rattle.formats.proofs.Lengths.{fact-long}
+use Rattle.tables.specs.declared.Cues.{Cues}
+use Rattle.tables.specs.declared.Playlist.{Playlist}
+use Rattle.tables.specs.Bytes.{cuesBytes, playsBytes}
+use Rattle.writer.specs.File.{factPart, cuesPart, playsPart}
+use Rattle.writer.proofs.Sizes.{length-part}
+
+-- ---- the pad
+module _ (n : ℕ) where
+  pub pad-none : {d : List ℕ} {at : ℕ} → n % 2 ≡ 0 → Put d at (padBytes n) d
+  unfolding padBytes
+  pad-none e = rw e put-nothing
+
+  pub pad-room : {at m : ℕ} → at + length (padBytes n) ≤ m → (n % 2 ≡ 0 → ⊥) → at < m
+  pad-room h e = omega (arith, length-pad n)
+
+  pub pad-zero : {d : List ℕ} {at : ℕ} → at + length (padBytes n) ≤ length d → (n % 2 ≡ 0 → ⊥) → Put d at (padBytes n) (set d at 0)
+  unfolding padBytes
+  pad-zero h e =
+      let o : n % 2 ≡ 1 = omega arith in
+      rw o (one-store (omega (arith, length-pad n)))
+
+pub ruleset padding = (pad-none, pad-room, pad-zero)
+
+-- ---- a chunk whose data need no pad
+module _ (k : Code) (bytes : List ℕ) where
+  pub head-room : (at : ℕ) {m : ℕ} → at + length (pieceBytes (piece k bytes)) ≤ m → at + 8 ≤ m
+  head-room at h = omega (arith, length-piece (piece k bytes))
+
+  module _ {d e : List ℕ} {at : ℕ} (n : ℕ) (h : at + length (pieceBytes (piece k bytes)) ≤ length d) (p : Put d at (headBytes k n) e) where
+    pub data-room : at + 8 + length bytes ≤ length e
+    data-room = let l = put-long p (omega (arith, length-head k n, head-room at h)) in omega (arith, length-piece (piece k bytes))
+
+    pub chunk-put : {g : List ℕ} → n ≡ length bytes → n % 2 ≡ 0 → Put e (at + 8) bytes g → Put d at (pieceBytes (piece k bytes)) g
+    unfolding pieceBytes padBytes
+    chunk-put {g} a b q =
+        let u = put-next p q (omega (arith, length-head k n)) (omega (arith, length-piece (piece k bytes))) in
+        rw (← a, b, append-nil bytes) u
+
+  pub chunk-next : (at : ℕ) {n : ℕ} → n ≡ length bytes → n % 2 ≡ 0 → at + 8 + n ≡ at + length (pieceBytes (piece k bytes))
+  chunk-next at a b = omega (arith, length-piece (piece k bytes))
+
+pub ruleset chunks = (head-room, data-room, chunk-put, chunk-next)
+
+-- ---- a chunk with its pad
+module _ (k : Code) (bytes : List ℕ) {d e g : List ℕ} {at : ℕ} (h : at + length (pieceBytes (piece k bytes)) ≤ length d)
+    (p : Put d at (headBytes k (length bytes)) e) (q : Put e (at + 8) bytes g) where
+  pub pad-fits : at + 8 + length bytes + length (padBytes (length bytes)) ≤ length g
+  pad-fits =
+      let r = data-room k bytes (length bytes) h p in
+      let l = put-long q r in
+      let m = put-long p (omega (arith, length-head k (length bytes), head-room k bytes at h)) in
+      omega (arith, length-piece (piece k bytes), length-pad (length bytes))
+
+  pub padded : {z : List ℕ} → Put g (at + 8 + length bytes) (padBytes (length bytes)) z → Put d at (pieceBytes (piece k bytes)) z
+  unfolding pieceBytes
+  padded r =
+      let l = data-room k bytes (length bytes) h p in
+      let m = put-long p (omega (arith, length-head k (length bytes), head-room k bytes at h)) in
+      let u = put-next q r refl (omega (arith, length-piece (piece k bytes), length-pad (length bytes))) in
+      put-next p u (omega (arith, length-head k (length bytes))) (omega (arith, length-append bytes (padBytes (length bytes)), length-piece (piece k bytes), length-pad (length bytes)))
+
+pub ruleset sounding = (head-room, data-room, pad-fits, padded)
+
+-- ---- a chunk that may be left out
+abbrev part : Bool → List ℕ → Part
+part there bytes = record { there = there; bytes = bytes }
+
+module _ (k : Code) (bytes : List ℕ) {b : Bool} where
+  whole-part : b ≡ true → partBytes k (part b bytes) ≡ pieceBytes (piece k bytes)
+  unfolding partBytes
+  whole-part t = simp t
+
+  no-part : b ≡ false → partBytes k (part b bytes) ≡ []
+  unfolding partBytes
+  no-part t = simp t
+
+  pub part-none : {d : List ℕ} {at : ℕ} → b ≡ false → Put d at (partBytes k (part b bytes)) d
+  part-none t = rw (no-part t) put-nothing
+
+  pub none-next : (at : ℕ) → b ≡ false → at ≡ at + length (partBytes k (part b bytes))
+  none-next at t = rw (no-part t) (omega arith)
+
+  module _ (t : b ≡ true) where
+    pub part-head-room : (at : ℕ) {m : ℕ} → at + length (partBytes k (part b bytes)) ≤ m → at + 8 ≤ m
+    part-head-room at h = head-room k bytes at (rw (whole-part t) at h)
+
+    module _ {d e : List ℕ} {at : ℕ} (n : ℕ) (h : at + length (partBytes k (part b bytes)) ≤ length d) (p : Put d at (headBytes k n) e) where
+      pub part-data-room : at + 8 + length bytes ≤ length e
+      part-data-room = data-room k bytes n (rw (whole-part t) at h) p
+
+      pub part-put : {g : List ℕ} → n ≡ length bytes → n % 2 ≡ 0 → Put e (at + 8) bytes g → Put d at (partBytes k (part b bytes)) g
+      part-put i j q = rw (whole-part t) (chunk-put k bytes n (rw (whole-part t) at h) p i j q)
+
+    pub part-next : (at : ℕ) {n : ℕ} → n ≡ length bytes → n % 2 ≡ 0 → at + 8 + n ≡ at + length (partBytes k (part b bytes))
+    part-next at i j = rw (whole-part t) (chunk-next k bytes at i j)
+
+pub told-yes : {a b : Bool} → a ≡ b → not a ≡ false → b ≡ true
+told-yes {a} e t = sym e ∙ not-false a t
+
+pub told-no : {a b : Bool} → a ≡ b → not a ≡ true → b ≡ false
+told-no {a} e t = sym e ∙ not-true a t
+
+pub fact-four : (frames : Frames) → 4 ≡ length (factBytes frames)
+fact-four frames = sym (fact-long frames)
+
+pub fact-next : (k : Code) (frames : Frames) (at : ℕ) {b : Bool} → b ≡ true → at + 12 ≡ at + length (partBytes k (part b (factBytes frames)))
+fact-next k frames at t = let e = part-next k (factBytes frames) t at (fact-four frames) refl in omega arith
+
+pub fact-room : (k : Code) (frames : Frames) {b : Bool} {d e : List ℕ} {at : ℕ} (n : ℕ)
+    → at + length (partBytes k (part b (factBytes frames))) ≤ length d → b ≡ true → Put d at (headBytes k n) e → at + 8 + 4 ≤ length e
+fact-room k frames n h t p = let r = part-data-room k (factBytes frames) t n h p in omega (arith, fact-long frames)
+
+pub ruleset parts = (part-none, none-next, part-head-room, part-data-room, part-put, part-next, told-yes, told-no, fact-four, fact-next, fact-room, lt-leb, le-leb)

@@ -1,0 +1,72 @@
+-- How long a chunk and the file are, in the words of the code. Assumes nothing.
+use mathlib.Core.Path.{_≡_, refl, sym, ap, _∙_}
+use mathlib.Core.Bool.{Bool, true, false, not, cond}
+use mathlib.Core.List.{List, []}
+use Prim.Native.Nat.{ℕ, _+_, _%_, _≤_, _<_}
+use native.Mathlib.Omega.{arith}
+use lib.Dec.{leb}
+use lib.ListN.{length}
+use borrow.Author.Tests.{lt-leb, le-leb}
+use Rattle.units.specs.declared.Frames.{Frames}
+use Rattle.codes.specs.declared.Code.{Code}
+use Rattle.riff.specs.Laying.{Part, pieceBytes, partBytes, piece, extent, extentIf}
+use Rattle.riff.proofs.Laying.{length-piece, length-laid}
+use Rattle.formats.specs.declared.Format.{Format}
+use Rattle.formats.specs.Frames.{needsFact}
+use Rattle.formats.specs.Bytes.{formatBytes, factBytes}
+use Rattle.formats.proofs.Lengths.{fact-long}
+use Rattle.tables.specs.declared.Cues.{Cues}
+use Rattle.tables.specs.declared.Playlist.{Playlist}
+use Rattle.tables.specs.Bytes.{cuesBytes, playsBytes}
+use Rattle.rules.specs.declared.Record.{Record}
+use Rattle.writer.specs.File.{factPart, cuesPart, playsPart, partsOf, fileOf}
+
+-- ---- a chunk that is written or left out
+module _ (p : Part) where
+  left-out : p .there ≡ false → 0 ≡ extentIf p
+  unfolding extentIf
+  left-out e = simp e
+
+  written : {n : ℕ} → p .there ≡ true → n ≡ length (p .bytes) → n % 2 ≡ 0 → 8 + n ≡ extentIf p
+  unfolding extentIf
+  written {n} e f g = simp (e, ← f) (omega arith)
+
+  pub length-part : (c : Code) → length (partBytes c p) ≡ extentIf p
+  unfolding partBytes extentIf
+  length-part c = by (p .there)
+    where
+      by : (b : Bool) → length (cond b (pieceBytes (piece c (p .bytes))) []) ≡ cond b (extent (length (p .bytes))) 0
+      by true = length-piece (piece c (p .bytes))
+      by false = refl
+
+module _ (f : Format) (frames : Frames) {a : Bool} (e : a ≡ needsFact f) where
+  pub fact-size : a ≡ true → 12 ≡ extentIf (factPart f frames)
+  fact-size t = written (factPart f frames) (sym e ∙ t) (sym (fact-long frames)) refl
+
+  pub fact-none : a ≡ false → 0 ≡ extentIf (factPart f frames)
+  fact-none t = left-out (factPart f frames) (sym e ∙ t)
+
+module _ (c : Cues) where
+  pub cues-none : c .count < 1 → 0 ≡ extentIf (cuesPart c)
+  cues-none h = left-out (cuesPart c) (lt-leb 1 (c .count) h)
+
+  pub cues-size : {n : ℕ} → 1 ≤ c .count → n ≡ length (cuesBytes c) → n % 2 ≡ 0 → 8 + n ≡ extentIf (cuesPart c)
+  cues-size h = written (cuesPart c) (le-leb 1 (c .count) h)
+
+module _ (p : Playlist) where
+  pub plays-none : p .count < 1 → 0 ≡ extentIf (playsPart p)
+  plays-none h = left-out (playsPart p) (lt-leb 1 (p .count) h)
+
+  pub plays-size : {n : ℕ} → 1 ≤ p .count → n ≡ length (playsBytes p) → n % 2 ≡ 0 → 8 + n ≡ extentIf (playsPart p)
+  plays-size h = written (playsPart p) (le-leb 1 (p .count) h)
+
+pub ruleset sizes = (fact-size, fact-none, cues-none, cues-size, plays-none, plays-size)
+
+-- ---- the file
+module _ (m : Record) (w : List ℕ) where
+  pub file-size : {fmt fact cue plst : ℕ}
+      → fmt ≡ length (formatBytes (m .format)) → fmt % 2 ≡ 0 → fact ≡ extentIf (factPart (m .format) (m .frames))
+      → cue ≡ extentIf (cuesPart (m .cues)) → plst ≡ extentIf (playsPart (m .playlist))
+      → 12 + 8 + fmt + fact + cue + plst + 8 + length w + length w % 2 ≡ length (fileOf m w)
+  unfolding fileOf partsOf
+  file-size a b c d e = let l = length-laid (partsOf m w) in omega arith

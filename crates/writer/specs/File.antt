@@ -1,0 +1,94 @@
+-- The file of a record and its sound, the verdict on writing it, and what the lent buffer then holds. Assumes nothing.
+use Prim.Native.Nat.{ℕ}
+use mathlib.Core.List.{List, _++_}
+use lib.Dec.{leb}
+use lib.ListN.{length}
+use Rattle.little.specs.Writing.{front}
+use Rattle.units.specs.declared.BytePlace.{BytePlace}
+use Rattle.units.specs.declared.Frames.{Frames}
+use Rattle.units.specs.declared.Refusal.the-variants.{LengthOutOfRange, OutputTooSmall}
+use Rattle.units.specs.declared.Verdict.{Verdict}
+use Rattle.units.specs.declared.Verdict.the-variants as verdict
+use Rattle.units.specs.Refusals.{numberOf, demand}
+use Rattle.codes.specs.declared.Code.the-variants as code
+use Rattle.riff.specs.Laying.{Part, Parts, piece, pieceBytes, partBytes, riffBytes, piecesOf, fileBytes}
+use Rattle.formats.specs.declared.Format.{Format}
+use Rattle.formats.specs.Frames.{needsFact}
+use Rattle.formats.specs.Bytes.{formatBytes, factBytes}
+use Rattle.tables.specs.declared.Cues.{Cues}
+use Rattle.tables.specs.declared.Playlist.{Playlist}
+use Rattle.tables.specs.Bytes.{cuesBytes, playsBytes}
+use Rattle.rules.specs.declared.Record.{Record}
+use Rattle.rules.specs.Rules.{recordVerdict}
+use Rattle.writer.specs.declared.Written.{Written}
+use Rattle.writer.specs.declared.Written.the-variants.{Bytes, Refused}
+
+-- ---- the file
+
+-- `fact` for ADPCM
+abbrev pub factPart : Format → Frames → Part
+factPart f frames = record { there = needsFact f; bytes = factBytes frames }
+
+-- `cue ` if c > 0
+abbrev pub cuesPart : Cues → Part
+cuesPart c = record { there = leb 1 (c .count); bytes = cuesBytes c }
+
+-- `plst` if s > 0
+abbrev pub playsPart : Playlist → Part
+playsPart p = record { there = leb 1 (p .count); bytes = playsBytes p }
+
+unfoldable pub partsOf : Record → List ℕ → Parts
+partsOf m w =
+    record {
+      format = formatBytes (m .format);
+      fact = factPart (m .format) (m .frames);
+      cues = cuesPart (m .cues);
+      plays = playsPart (m .playlist);
+      sound = w;
+    }
+
+unfoldable pub fileOf : Record → List ℕ → List ℕ
+fileOf m w = fileBytes (piecesOf (partsOf m w))
+
+-- its first bytes, up to the tables, and the tables
+unfoldable pub opening : ℕ → Format → Frames → List ℕ
+opening size f frames =
+    riffBytes size ++ (pieceBytes (piece code.Format (formatBytes f)) ++ partBytes code.Fact (factPart f frames))
+
+abbrev pub tablesOf : Cues → Playlist → List ℕ
+tablesOf c p = partBytes code.Cue (cuesPart c) ++ partBytes code.Playlist (playsPart p)
+
+-- ---- the verdict: 9 to 13, a file above the limit with 1, then 14
+
+-- what a verdict leaves to another
+abbrev pub andThen : Verdict → Verdict → Verdict
+andThen verdict.Accepted v = v
+andThen (verdict.Refused r) v = verdict.Refused r
+
+-- 9 to 13, then 1
+unfoldable pub writable : Record → List ℕ → Verdict
+writable m w =
+    andThen (recordVerdict m (record { 0 = length w }))
+    (demand (leb (length (fileOf m w)) 1073741824) LengthOutOfRange verdict.Accepted)
+
+unfoldable pub settled : Record → List ℕ → ℕ → Verdict
+settled m w room = andThen (writable m w) (demand (leb (length (fileOf m w)) room) OutputTooSmall verdict.Accepted)
+
+-- ---- the answer, with room for so many bytes
+
+abbrev pub answer : Verdict → BytePlace → Written
+answer verdict.Accepted n = Bytes n
+answer (verdict.Refused r) n = Refused r
+
+unfoldable pub writing : Record → List ℕ → ℕ → Written
+writing m w room = answer (settled m w room) (record { 0 = length (fileOf m w) })
+
+-- a buffer d after it: the file from its start and then what it held, or all as it was
+abbrev pub holding : Written → List ℕ → List ℕ → List ℕ
+holding (Bytes n) ys d = front ys d
+holding (Refused r) ys d = d
+
+-- the number of an answer: 0 where the file is written
+abbrev pub writtenNumber : Written → ℕ
+writtenNumber (Bytes n) = 0
+writtenNumber (Refused r) = numberOf r

@@ -1,0 +1,232 @@
+// Writing a WAVE file: `fmt `, `fact` for ADPCM, `cue ` and `plst` where there are entries, and `data`.
+//
+// All is settled before the first store, so that a refusal leaves the lent buffer as it was. The sound
+// is copied once and not looked at.
+use codes::Code;
+use formats::Format;
+use rules::Record;
+use tables::Cues;
+use tables::Playlist;
+use units::BytePlace;
+use units::Frames;
+use units::Refusal;
+use units::Verdict;
+ghost use mathlib.Core.Path.{_≡_};
+ghost use mathlib.Core.Bool.{true};
+ghost use mathlib.Core.List.{_++_};
+ghost use Prim.Native.Nat.{_+_, _≤_};
+ghost use lib.ListN.{length};
+ghost use Rattle.codes.specs.declared.Code.the-variants as code;
+ghost use Rattle.little.specs.Writing.{Put, front};
+ghost use Rattle.units.specs.declared.Verdict.the-variants as verdict;
+ghost use Rattle.formats.specs.Format.{formatRule};
+ghost use Rattle.formats.specs.Bytes.{formatBytes};
+ghost use Rattle.riff.specs.Laying.{piece, padBytes, pieceBytes, partBytes, riffBytes, extentIf};
+ghost use Rattle.writer.specs.File.{factPart, cuesPart, playsPart, fileOf, opening, tablesOf, settled, writing, holding};
+
+// What writing answers: the number of bytes of the file, or why there is none.
+pub enum Written {
+    Bytes(BytePlace),
+    Refused(Refusal),
+}
+
+// ---- how long the file is
+
+// The bytes of the `fact`, with its head; none where it is left out.
+fn fact_extent(format: Format, frames: Frames) -> usize
+    ensures { λ r. ⌜ (r ≡ extentIf (factPart format frames)) × (r ≤ 12) ⌝ }
+{
+    if formats::needs_fact(format) {
+        return 12;
+    }
+    0
+}
+
+// The bytes of the `cue `.
+fn cues_extent(cues: Cues) -> usize
+    ensures { λ r. ⌜ (r ≡ extentIf (cuesPart cues)) × (r ≤ 1548) ⌝ }
+{
+    if cues.count < 1 {
+        return 0;
+    }
+    8 + tables::cues_size(cues)
+}
+
+// The bytes of the `plst`.
+fn plays_extent(playlist: Playlist) -> usize
+    ensures { λ r. ⌜ (r ≡ extentIf (playsPart playlist)) × (r ≤ 780) ⌝ }
+{
+    if playlist.count < 1 {
+        return 0;
+    }
+    8 + tables::plays_size(playlist)
+}
+
+// The length of the file.
+fn file_size(made: Record, sound: &[u8]) -> usize
+    requires { ⌜ length (now sound) ≤ 1073741824 ⌝ }
+    ensures { λ r. ⌜ r ≡ length (fileOf made (now (sound .entry))) ⌝ }
+{
+    let format = made.format;
+    let frames = made.frames;
+    let cues = made.cues;
+    let playlist = made.playlist;
+    let fmt = formats::format_size(format);
+    let fact = fact_extent(format, frames);
+    let cue = cues_extent(cues);
+    let plst = plays_extent(playlist);
+    let n = sound.len();
+    12 + 8 + fmt + fact + cue + plst + 8 + n + n % 2
+}
+
+// The verdict on writing a record and its sound: 9 to 13, then 1, then 14.
+fn settle(made: Record, sound: &[u8], room: usize) -> Verdict
+    ensures { λ r. ⌜ r ≡ settled made (now (sound .entry)) room ⌝ }
+{
+    let ruled = rules::record_verdict(made, BytePlace(sound.len()));
+    let Verdict::Accepted = ruled else {
+        return ruled;
+    };
+    if riff::LIMIT < sound.len() {
+        return Verdict::Refused(Refusal::LengthOutOfRange);
+    }
+    let size = file_size(made, sound);
+    if riff::LIMIT < size {
+        return Verdict::Refused(Refusal::LengthOutOfRange);
+    }
+    if room < size {
+        return Verdict::Refused(Refusal::OutputTooSmall);
+    }
+    Verdict::Accepted
+}
+
+// ---- the chunks; each function puts one at a place, where it is written, and gives the place behind it
+
+fn put_format(out: &mut [u8], at: usize, format: Format) -> usize
+    requires { ⌜ formatRule format ≡ true ⌝ }
+    requires { ⌜ at + length (pieceBytes (piece code.Format (formatBytes format))) ≤ length (now out) ⌝ }
+    ensures { λ r. ⌜ (r ≡ at + length (pieceBytes (piece code.Format (formatBytes format))))
+        × Put (now (out .entry)) at (pieceBytes (piece code.Format (formatBytes format))) (now (out .exit)) ⌝ }
+{
+    let size = formats::format_size(format);
+    riff::put_head(out, at, Code::Format, size as u32);
+    formats::put_format(out, at + 8, format);
+    at + 8 + size
+}
+
+fn put_fact(out: &mut [u8], at: usize, format: Format, frames: Frames) -> usize
+    requires { ⌜ at + length (partBytes code.Fact (factPart format frames)) ≤ length (now out) ⌝ }
+    ensures { λ r. ⌜ (r ≡ at + length (partBytes code.Fact (factPart format frames)))
+        × Put (now (out .entry)) at (partBytes code.Fact (factPart format frames)) (now (out .exit)) ⌝ }
+{
+    let needed = formats::needs_fact(format);
+    if !needed {
+        return at;
+    }
+    riff::put_head(out, at, Code::Fact, 4);
+    formats::put_fact(out, at + 8, frames);
+    at + 12
+}
+
+fn put_cues(out: &mut [u8], at: usize, cues: Cues) -> usize
+    requires { ⌜ at + length (partBytes code.Cue (cuesPart cues)) ≤ length (now out) ⌝ }
+    ensures { λ r. ⌜ (r ≡ at + length (partBytes code.Cue (cuesPart cues)))
+        × Put (now (out .entry)) at (partBytes code.Cue (cuesPart cues)) (now (out .exit)) ⌝ }
+{
+    if cues.count < 1 {
+        return at;
+    }
+    let size = tables::cues_size(cues);
+    riff::put_head(out, at, Code::Cue, size as u32);
+    tables::put_cues(out, at + 8, cues);
+    at + 8 + size
+}
+
+fn put_plays(out: &mut [u8], at: usize, playlist: Playlist) -> usize
+    requires { ⌜ at + length (partBytes code.Playlist (playsPart playlist)) ≤ length (now out) ⌝ }
+    ensures { λ r. ⌜ (r ≡ at + length (partBytes code.Playlist (playsPart playlist)))
+        × Put (now (out .entry)) at (partBytes code.Playlist (playsPart playlist)) (now (out .exit)) ⌝ }
+{
+    if playlist.count < 1 {
+        return at;
+    }
+    let size = tables::plays_size(playlist);
+    riff::put_head(out, at, Code::Playlist, size as u32);
+    tables::put_plays(out, at + 8, playlist);
+    at + 8 + size
+}
+
+// Puts the pad of a chunk of some size: a zero where the size is odd.
+fn put_pad(out: &mut [u8], at: usize, size: usize)
+    requires { ⌜ at + length (padBytes size) ≤ length (now out) ⌝ }
+    ensures { λ _. ⌜ Put (now (out .entry)) at (padBytes size) (now (out .exit)) ⌝ }
+{
+    if size % 2 == 0 {
+        return;
+    }
+    out[at] = 0;
+}
+
+fn put_sound(out: &mut [u8], at: usize, sound: &[u8])
+    requires { ⌜ length (now sound) ≤ 1073741824 ⌝ }
+    requires { ⌜ at + length (pieceBytes (piece code.Data (now sound))) ≤ length (now out) ⌝ }
+    ensures { λ _. ⌜ Put (now (out .entry)) at (pieceBytes (piece code.Data (now (sound .entry)))) (now (out .exit)) ⌝ }
+{
+    let size = sound.len();
+    riff::put_head(out, at, Code::Data, size as u32);
+    little::put_bytes(out, at + 8, sound);
+    put_pad(out, at + 8 + size, size);
+}
+
+// ---- the file
+
+// Puts what stands before the tables: the first twelve bytes, `fmt ` and `fact`.
+fn put_opening(out: &mut [u8], size: u32, format: Format, frames: Frames) -> usize
+    requires { ⌜ formatRule format ≡ true ⌝ }
+    requires { ⌜ length (opening size format frames) ≤ length (now out) ⌝ }
+    ensures { λ r. ⌜ (r ≡ length (opening size format frames))
+        × Put (now (out .entry)) 0 (opening size format frames) (now (out .exit)) ⌝ }
+{
+    riff::put_riff(out, size);
+    let next = put_format(out, 12, format);
+    put_fact(out, next, format, frames)
+}
+
+// Puts the two tables.
+fn put_tables(out: &mut [u8], at: usize, cues: Cues, playlist: Playlist) -> usize
+    requires { ⌜ at + length (tablesOf cues playlist) ≤ length (now out) ⌝ }
+    ensures { λ r. ⌜ (r ≡ at + length (tablesOf cues playlist))
+        × Put (now (out .entry)) at (tablesOf cues playlist) (now (out .exit)) ⌝ }
+{
+    let next = put_cues(out, at, cues);
+    put_plays(out, next, playlist)
+}
+
+// Puts the whole file, for which all is settled, and gives its length.
+fn put_file(made: Record, sound: &[u8], out: &mut [u8]) -> BytePlace
+    requires { ⌜ settled made (now sound) (length (now out)) ≡ verdict.Accepted ⌝ }
+    ensures { λ r. ⌜ (r .0 ≡ length (fileOf made (now (sound .entry))))
+        × (now (out .exit) ≡ front (fileOf made (now (sound .entry))) (now (out .entry))) ⌝ }
+{
+    let format = made.format;
+    let frames = made.frames;
+    let cues = made.cues;
+    let playlist = made.playlist;
+    let size = file_size(made, sound);
+    let tables = put_opening(out, (size - 8) as u32, format, frames);
+    let data_at = put_tables(out, tables, cues, playlist);
+    put_sound(out, data_at, sound);
+    BytePlace(size)
+}
+
+// Writes a record and its sound as a file, from the start of a lent buffer.
+pub fn write(made: Record, sound: &[u8], out: &mut [u8]) -> Written
+    ensures { λ r. ⌜ (r ≡ writing made (now (sound .entry)) (length (now (out .entry))))
+        × (now (out .exit) ≡ holding r (fileOf made (now (sound .entry))) (now (out .entry))) ⌝ }
+{
+    let verdict = settle(made, sound, out.len());
+    match verdict {
+        Verdict::Refused(refusal) => Written::Refused(refusal),
+        Verdict::Accepted => Written::Bytes(put_file(made, sound, out)),
+    }
+}
