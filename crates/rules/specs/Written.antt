@@ -1,0 +1,30 @@
+-- What is read back of a record that is written, and which faults its bytes carry. Assumes nothing.
+use Prim.Native.Nat.{ℕ, _<_}
+use mathlib.Core.Path.{_≡_}
+use mathlib.Core.Bool.{true}
+use Rattle.units.specs.declared.BytePlace.{BytePlace}
+use Rattle.units.specs.declared.Refusal.the-variants.{FormatWrong, FactWrong}
+use Rattle.units.specs.declared.Verdict.the-variants.{Refused}
+use Rattle.formats.specs.Frames.{needsFact}
+use Rattle.formats.specs.Bytes.{FormatFits}
+use Rattle.tables.specs.Bytes.{cuesKept, playsKept, CuesFit, PlaysFit}
+use Rattle.rules.specs.declared.Record.{Record}
+use Rattle.rules.specs.Rules.{recordVerdict}
+
+-- the same record, its room past the two counts zero
+unfoldable pub recordKept : Record → Record
+recordKept m =
+    record { format = m .format; frames = m .frames; cues = cuesKept (m .cues); playlist = playsKept (m .playlist) }
+
+-- the numbers of a record fit the fields that they are written to, as those of the code's types do
+pub record RecordFits (m : Record) : Type 0 where
+  pub format : FormatFits (m .format)
+  pub frames : m .frames .0 < 4294967296
+  pub cues : CuesFit (m .cues)
+  pub plays : PlaysFit (m .playlist)
+
+-- the bytes carry the fault for which a record is refused: all but two of a PCM file, which says neither its samples
+-- per block nor F
+pub record Carried (m : Record) (n : BytePlace) : Type 0 where
+  pub samples : recordVerdict m n ≡ Refused FormatWrong → m .format .tag ≡ 1 → m .format .samples ≡ 1
+  pub frames : recordVerdict m n ≡ Refused FactWrong → needsFact (m .format) ≡ true
