@@ -1,12 +1,12 @@
 -- The laws of filling a lent buffer, once for every type of element: what a run of writes has done and has left to do. Assumes nothing.
 use mathlib.Core.Path.{_≡_, refl, sym, ap, _∙_, subst}
 use mathlib.Core.List.{List, [], _∷_, _++_, append-assoc, append-nil}
-use Prim.Native.Nat.{ℕ, _+_, _≤_, _<_}
+use Prim.Native.Nat.{ℕ, _+_, _-_, _≤_, _<_}
 use native.Mathlib.Nat.{zero-add, add-zero}
 use native.Mathlib.Numerals.{add-one, add-two, add-three}
 use native.Mathlib.Omega.{arith}
 use lib.ListN.{length, take, drop, getD, set, length-append, length-drop, take-append-drop, drop-of-length-le}
-use lib.Seq.{take-at, take-append-seam, drop-at, drop-drop, length-take-le, drop-cons, sets-eq, getD-take, getD-drop}
+use lib.Seq.{take-add, take-all, take-at, take-take, take-append-add, take-append-le, take-append-seam, drop-at, drop-drop, length-take-le, drop-cons, sets-eq, getD-take, getD-drop}
 use Rattle.little.specs.Writing.{writeAt, front, Put}
 
 -- d₀ is to become p, and then what d₀ has past it. In d that is done up to index at, and rest is left to write
@@ -149,6 +149,34 @@ module _ {A : Type 0} where
   pub drop-next : (s : List A) (i : ℕ) (z : A) → i < length s → drop i s ≡ getD s i z ∷ drop (i + 1) s
   drop-next s i z h = drop-cons s i z h ∙ ap (λ (k : ℕ). getD s i z ∷ drop k s) (sym (add-one i))
 
+  -- two parts of ys, put one behind the other, are one: m elements from index i, and n from index j
+  pub put-parts : (ys : List A) {d e g : List A} {at at′ : ℕ} (i j m n : ℕ) → Put d at (take m (drop i ys)) e → Put e at′ (take n (drop j ys)) g
+      → at′ ≡ at + m → j ≡ i + m → at′ + n ≤ length d → j + n ≤ length ys → Put d at (take (m + n) (drop i ys)) g
+  put-parts ys {d} {e} {g} {at} {at′} i j m n p q a b r h =
+      subst (λ (l : List A). Put d at l g)
+      (ap (λ (k : ℕ). take m (drop i ys) ++ take n (drop k ys)) b
+      ∙ ap (λ (l : List A). take m (drop i ys) ++ take n l) (sym (drop-drop m i ys))
+      ∙ sym (take-add m n (drop i ys)))
+      (put-next p q (omega (arith, part-long ys i m (omega arith))) (omega (arith, part-long ys j n h)))
+
+  -- four parts of n elements each
+  pub four-parts : (n : ℕ) (ys : List A) {d a b c e : List A} {at at₁ at₂ at₃ : ℕ} (i i₁ i₂ i₃ : ℕ)
+      → Put d at (take n (drop i ys)) a → Put a at₁ (take n (drop i₁ ys)) b → Put b at₂ (take n (drop i₂ ys)) c → Put c at₃ (take n (drop i₃ ys)) e
+      → at₁ ≡ at + n → at₂ ≡ at₁ + n → at₃ ≡ at₂ + n → i₁ ≡ i + n → i₂ ≡ i₁ + n → i₃ ≡ i₂ + n
+      → at₃ + n ≤ length d → i₃ + n ≤ length ys → Put d at (take (n + n + n + n) (drop i ys)) e
+  four-parts n ys i i₁ i₂ i₃ p q r t a₁ a₂ a₃ b₁ b₂ b₃ room h =
+      let v = put-parts ys i i₁ n n p q a₁ b₁ (omega arith) (omega arith) in
+      let w = put-parts ys i i₂ (n + n) n v r (omega arith) (omega arith) (omega arith) (omega arith) in
+      put-parts ys i i₃ (n + n + n) n w t (omega arith) (omega arith) (omega arith) h
+
+  -- in the words of the code
+  pub four-sixteens : (ys : List A) {d a b c e : List A} {at : ℕ} (i : ℕ)
+      → Put d at (take 16 (drop i ys)) a → Put a (at + 16) (take 16 (drop (i + 16) ys)) b → Put b (at + 32) (take 16 (drop (i + 32) ys)) c
+      → Put c (at + 48) (take 16 (drop (i + 48) ys)) e → at + 64 ≤ length d → i + 64 ≤ length ys → Put d at (take 64 (drop i ys)) e
+  four-sixteens ys i p q r t room h =
+      four-parts 16 ys i (i + 16) (i + 32) (i + 48) p q r t
+      refl (omega arith) (omega arith) refl (omega arith) (omega arith) (omega arith) (omega arith)
+
 -- ---- ys goes to index at of d₀; in d its first i elements are written
 pub record Written {A : Type 0} (ys : List A) (at i : ℕ) (d d₀ : List A) : Type 0 where
   pub room : at + length ys ≤ length d₀
@@ -182,9 +210,56 @@ module _ {A : Type 0} {ys d d₀ : List A} {at i : ℕ} (w : Written ys at i d d
   pub copy-next : (z : A) → i < length ys → Written ys at (i + 1) (set d (at + i) (getD ys i z)) d₀
   copy-next z h = write-next z h refl
 
+  -- k elements more, as they stand
+  pub part-room : (k : ℕ) → k < length ys - i → at + i + k ≤ length d
+  part-room k h = omega (arith, w .room, w .filled .long)
+
+  pub copy-part : (k : ℕ) {e : List A} → k < length ys - i → Put d (at + i) (take k (drop i ys)) e → Written ys at (i + k) e d₀
+  copy-part k h p =
+      let rest : List A = drop i ys in
+      write-piece p
+      (sym (take-append-drop k rest) ∙ ap (λ (m : List A). take k rest ++ m) (drop-drop k i ys))
+      (omega (arith, part-long ys i k (omega arith)))
+      (omega arith)
+
+  -- the last k elements, of which some may be written already: the first j are, and stay
+  first-part : (j : ℕ) → j ≤ i → take (at + j) d ≡ take at d₀ ++ take j ys
+  first-part j h =
+      let l = length-take-le (at + i) d (w .filled .room) in
+      let l₀ = length-take-le at d₀ (omega (arith, w .room)) in
+      sym (take-take (at + j) (at + i) d (omega arith))
+      ∙ sym (take-append-le (at + j) (take (at + i) d) (drop i ys) (omega arith))
+      ∙ ap (take (at + j)) (w .filled .head)
+      ∙ ap (λ (k : ℕ). take (k + j) (take at d₀ ++ ys)) (sym l₀)
+      ∙ take-append-add (take at d₀) ys j
+
+  pub last-room : (k : ℕ) → k ≤ length ys → at + (length ys - k) + k ≤ length d
+  last-room k h = omega (arith, w .room, w .filled .long)
+
+  pub copy-last : (k : ℕ) {e : List A} → k ≤ length ys → length ys - i ≤ k
+      → Put d (at + (length ys - k)) (take k (drop (length ys - k) ys)) e → Put d₀ at ys e
+  unfolding writeAt
+  copy-last k {e} h u p =
+      let j : ℕ = length ys - k in
+      let r : List A = drop (at + length ys) d₀ in
+      let l : length (drop j ys) ≡ k = length-drop j ys ∙ omega arith in
+      let n : at + j + length (take k (drop j ys)) ≡ at + i + (length ys - i) = omega (arith, part-long ys j k (omega arith), w .upto) in
+      let m : at + i + (length ys - i) ≡ at + length ys = omega (arith, w .upto) in
+      let t = ap (λ (z : ℕ). drop z d) n ∙ drop-more d d₀ (at + i) (length ys - i) (w .filled .tail) ∙ ap (λ (z : ℕ). drop z d₀) m in
+      let f = first-part j (omega arith) in
+      let g = take-all k (drop j ys) (omega arith) in
+      record {
+        same =
+            p .same
+            ∙ (λ x. f x ++ g x ++ t x)
+            ∙ ap (λ (z : List A). z ++ r) (append-assoc (take at d₀) (take j ys) (drop j ys) ∙ ap (λ (z : List A). take at d₀ ++ z) (take-append-drop j ys));
+      }
+
 pub ruleset behind = (first-room, both-end, next-room, both-put)
 
 pub ruleset copying = (write-begins, write-room, copy-next, write-ends)
+
+pub ruleset parts-copying = (write-begins, part-room, copy-part, last-room, copy-last)
 
 -- the same from the start of a buffer
 module _ {A : Type 0} where

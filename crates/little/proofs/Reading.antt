@@ -1,6 +1,6 @@
 -- Laws of little-endian numbers, for every width: a number is its first byte and the rest, and reading back what was put gives it
 -- again. Assumes nothing.
-use mathlib.Core.Path.{_≡_, refl, sym, ap, _∙_}
+use mathlib.Core.Path.{_≡_, refl, sym, ap, _∙_, subst}
 use mathlib.Core.List.{List, [], _∷_, _++_}
 use Prim.Native.Nat.{ℕ, zero, suc, _+_, _*_, _/_, _%_, _^_, _≤_, _<_}
 use native.Mathlib.Nat.{pow-suc, div-lt-iff-lt-mul}
@@ -9,11 +9,13 @@ use native.Mathlib.Omega.{arith}
 use lib.Dec.{T, ltb, ltb→lt, lit<}
 use lib.Pow.{areBytes}
 use lib.ListN.{length, take, drop, getD, set, List·getD-eq-default, drop-of-length-le, length-set}
-use lib.Seq.{take-nil, take-at, drop-drop, drop-append-add}
+use lib.Seq.{take-nil, take-at, drop-cons, drop-drop, drop-append-add}
+use mir.Syntax.{w8}
+use mir.Val.{Fits}
 use mir.Facts.{and-yes}
 use Rattle.little.specs.Numbers.{numberIn, numberAt, bytesOf}
 use Rattle.little.specs.Writing.{Put}
-use Rattle.little.proofs.Filling.{put-part, two-stores, four-stores}
+use Rattle.little.proofs.Filling.{put-part, two-stores, four-stores, four-parts}
 
 -- one byte more in front
 pub number-more : (n : ℕ) (s : List ℕ) (at : ℕ) → numberAt (suc n) s at ≡ getD s at 0 + 256 * numberAt n s (suc at)
@@ -80,6 +82,35 @@ said-bytes (b ∷ bs) t =
     let l : (b + 256 * numberIn bs) % 256 ≡ b = omega arith in
     let r : (b + 256 * numberIn bs) / 256 ≡ numberIn bs = omega arith in
     rw (l, r) (ap (λ (m : List ℕ). b ∷ m) (said-bytes bs (and-yes (ltb b 256) (areBytes bs) t .1)))
+
+-- the same where the number stands at a place of bytes
+bytes-at : (n : ℕ) (s : List ℕ) (i : ℕ) → i + n ≤ length s → ((k : ℕ) → Fits w8 (getD s k 0)) → bytesOf n (numberAt n s i) ≡ take n (drop i s)
+unfolding bytesOf
+bytes-at zero s i h b = refl
+bytes-at (suc n) s i h b =
+    let f : getD s i 0 < 256 = b i .fits in
+    let e = number-more n s i in
+    let l : numberAt (suc n) s i % 256 ≡ getD s i 0 = omega arith in
+    let r : numberAt (suc n) s i / 256 ≡ numberAt n s (suc i) = omega arith in
+    rw (l, r, drop-cons s i 0 (omega arith)) (ap (λ (m : List ℕ). getD s i 0 ∷ m) (bytes-at n s (suc i) (omega arith) b))
+
+-- a number read at a place i of s is put: its bytes stand as they are in s
+module _ (s : List ℕ) (b : (k : ℕ) → Fits w8 (getD s k 0)) where
+  pub copied : (n : ℕ) {d e : List ℕ} {at v : ℕ} (i : ℕ) → i + n ≤ length s → v ≡ numberAt n s i → Put d at (bytesOf n v) e → Put d at (take n (drop i s)) e
+  copied n {d} {e} {at} i h q p = subst (λ (l : List ℕ). Put d at l e) (ap (bytesOf n) q ∙ bytes-at n s i h b) p
+
+  -- four numbers, in the words of the code
+  pub sixteen-copied : {d a₁ a₂ a₃ e : List ℕ} {at x y z w : ℕ} (i : ℕ)
+      → x ≡ numberAt 4 s i → y ≡ numberAt 4 s (i + 4) → z ≡ numberAt 4 s (i + 8) → w ≡ numberAt 4 s (i + 12)
+      → Put d at (bytesOf 4 x) a₁ → Put a₁ (at + 4) (bytesOf 4 y) a₂ → Put a₂ (at + 8) (bytesOf 4 z) a₃ → Put a₃ (at + 12) (bytesOf 4 w) e
+      → at + 16 ≤ length d → i + 16 ≤ length s → Put d at (take 16 (drop i s)) e
+  sixteen-copied i p q r t f g h k room there =
+      four-parts 4 s i (i + 4) (i + 8) (i + 12)
+      (copied 4 i (omega arith) p f)
+      (copied 4 (i + 4) (omega arith) q g)
+      (copied 4 (i + 8) (omega arith) r h)
+      (copied 4 (i + 12) (omega arith) t k)
+      refl (omega arith) (omega arith) refl (omega arith) (omega arith) (omega arith) (omega arith)
 
 -- ---- where a number stands in a list: after a front, in a part, and where it was put
 pub number-after : (n : ℕ) (xs s : List ℕ) (at : ℕ) → numberAt n (xs ++ s) (length xs + at) ≡ numberAt n s at

@@ -4,7 +4,7 @@
 // take every place, and what lies past the end counts as 0.
 ghost use mathlib.Core.Path.{_≡_};
 ghost use Prim.Native.Nat.{_+_, _≤_, _<_};
-ghost use lib.ListN.{length, getD};
+ghost use lib.ListN.{length, take, drop, getD};
 ghost use Rattle.little.specs.Numbers.{numberAt, bytesOf};
 ghost use Rattle.little.specs.Writing.{Put};
 
@@ -87,8 +87,8 @@ pub fn put_u32(out: &mut [u8], at: usize, value: u32)
     out[at + 3] = (value / 16777216 % 256) as u8;
 }
 
-// Copies a run of bytes to a place.
-pub fn put_bytes(out: &mut [u8], at: usize, bytes: &[u8])
+// Copies a run of bytes to a place, byte by byte.
+fn put_few(out: &mut [u8], at: usize, bytes: &[u8])
     requires { ⌜ at + length (now bytes) ≤ length (now out) ⌝ }
     ensures { λ _. ⌜ Put (now (out .entry)) at (now (bytes .entry)) (now (out .exit)) ⌝ }
 {
@@ -97,4 +97,99 @@ pub fn put_bytes(out: &mut [u8], at: usize, bytes: &[u8])
         out[at + i] = bytes[i];
         i += 1;
     }
+}
+
+// Copies the four bytes from i on to a place.
+fn put_four(out: &mut [u8], at: usize, bytes: &[u8], i: usize)
+    requires { ⌜ at + 4 ≤ length (now out) ⌝ }
+    requires { ⌜ i + 4 ≤ length (now bytes) ⌝ }
+    ensures { λ _. ⌜ Put (now (out .entry)) at (take 4 (drop i (now (bytes .entry)))) (now (out .exit)) ⌝ }
+{
+    put_u32(out, at, u32_at(bytes, i));
+}
+
+// Copies the sixteen bytes from i on to a place. All are read before the first is written, so that
+// a machine can move them as one.
+fn put_sixteen(out: &mut [u8], at: usize, bytes: &[u8], i: usize)
+    requires { ⌜ at + 16 ≤ length (now out) ⌝ }
+    requires { ⌜ i + 16 ≤ length (now bytes) ⌝ }
+    ensures { λ _. ⌜ Put (now (out .entry)) at (take 16 (drop i (now (bytes .entry)))) (now (out .exit)) ⌝ }
+{
+    let first = u32_at(bytes, i);
+    let second = u32_at(bytes, i + 4);
+    let third = u32_at(bytes, i + 8);
+    let fourth = u32_at(bytes, i + 12);
+    put_u32(out, at, first);
+    put_u32(out, at + 4, second);
+    put_u32(out, at + 8, third);
+    put_u32(out, at + 12, fourth);
+}
+
+// Copies the 64 bytes from i on to a place.
+fn put_many(out: &mut [u8], at: usize, bytes: &[u8], i: usize)
+    requires { ⌜ at + 64 ≤ length (now out) ⌝ }
+    requires { ⌜ i + 64 ≤ length (now bytes) ⌝ }
+    ensures { λ _. ⌜ Put (now (out .entry)) at (take 64 (drop i (now (bytes .entry)))) (now (out .exit)) ⌝ }
+{
+    put_sixteen(out, at, bytes, i);
+    put_sixteen(out, at + 16, bytes, i + 16);
+    put_sixteen(out, at + 32, bytes, i + 32);
+    put_sixteen(out, at + 48, bytes, i + 48);
+}
+
+// Copies a run of bytes to a place, four at a turn. The last four are then copied whole, some
+// perhaps a second time, so that none is left over.
+fn put_by_four(out: &mut [u8], at: usize, bytes: &[u8])
+    requires { ⌜ at + length (now bytes) ≤ length (now out) ⌝ }
+    ensures { λ _. ⌜ Put (now (out .entry)) at (now (bytes .entry)) (now (out .exit)) ⌝ }
+{
+    let n = bytes.len();
+    if n < 4 {
+        put_few(out, at, bytes);
+        return;
+    }
+    let mut i = 0;
+    while 4 < n - i {
+        put_four(out, at + i, bytes, i);
+        i += 4;
+    }
+    put_four(out, at + (n - 4), bytes, n - 4);
+}
+
+// Copies a run of bytes to a place, sixteen at a turn. The last sixteen are then copied whole, some
+// perhaps a second time, so that none is left over.
+fn put_by_sixteen(out: &mut [u8], at: usize, bytes: &[u8])
+    requires { ⌜ at + length (now bytes) ≤ length (now out) ⌝ }
+    ensures { λ _. ⌜ Put (now (out .entry)) at (now (bytes .entry)) (now (out .exit)) ⌝ }
+{
+    let n = bytes.len();
+    if n < 16 {
+        put_by_four(out, at, bytes);
+        return;
+    }
+    let mut i = 0;
+    while 16 < n - i {
+        put_sixteen(out, at + i, bytes, i);
+        i += 16;
+    }
+    put_sixteen(out, at + (n - 16), bytes, n - 16);
+}
+
+// Copies a run of bytes to a place, 64 at a turn. The last 64 are then copied whole, some
+// perhaps a second time, so that none is left over.
+pub fn put_bytes(out: &mut [u8], at: usize, bytes: &[u8])
+    requires { ⌜ at + length (now bytes) ≤ length (now out) ⌝ }
+    ensures { λ _. ⌜ Put (now (out .entry)) at (now (bytes .entry)) (now (out .exit)) ⌝ }
+{
+    let n = bytes.len();
+    if n < 64 {
+        put_by_sixteen(out, at, bytes);
+        return;
+    }
+    let mut i = 0;
+    while 64 < n - i {
+        put_many(out, at + i, bytes, i);
+        i += 64;
+    }
+    put_many(out, at + (n - 64), bytes, n - 64);
 }

@@ -4,13 +4,11 @@ use mathlib.Core.Bool.{Bool, true, false, cond, _&&_}
 use mathlib.Core.List.{List}
 use Prim.Native.Nat.{ℕ}
 use lib.ListN.{length}
-use Rattle.units.specs.declared.BytePlace.{BytePlace}
+use Rattle.lists.proofs.Laws.{and-both}
 use Rattle.units.specs.declared.Refusal.{Refusal}
-use Rattle.units.specs.declared.Refusal.the-variants.{FormatWrong, NotWholeFrames, FactWrong, CuesWrong, PlaylistWrong, FormatOrDataMissing}
+use Rattle.units.specs.declared.Refusal.the-variants.{FormatOrDataMissing}
 use Rattle.units.specs.declared.Verdict.{Verdict}
 use Rattle.units.specs.declared.Verdict.the-variants.{Accepted, Refused}
-use Rattle.units.specs.Refusals.{demand}
-use Rattle.units.proofs.Laws.{demand-met}
 use Rattle.riff.specs.declared.Directory.{Directory}
 use Rattle.riff.specs.declared.Walked.{Walked}
 use Rattle.riff.specs.declared.Walked.the-variants.{Whole, Stopped}
@@ -18,54 +16,78 @@ use Rattle.riff.specs.Chunks.{isThere}
 use Rattle.riff.specs.Walk.{directoryOf}
 use Rattle.formats.specs.Format.{formatForm, formatRule}
 use Rattle.formats.specs.Frames.{wholeBlocks, factForm, framesRule, Sounding}
+use Rattle.tables.specs.Cues.{cuesForm, cuesRule}
+use Rattle.tables.specs.Plays.{playsForm, playsRule}
 use Rattle.rules.specs.declared.Record.{Record}
 use Rattle.rules.specs.declared.Reading.{Reading}
-use Rattle.rules.specs.Rules.{fine, formatFine, factFine, cuesFine, playsFine, inOrder, verdictOf}
+use Rattle.rules.specs.Rules.{fine, formatFine, factFine, cuesFine, playsFine, verdictOf, Writable}
+use Rattle.rules.proofs.Taken.{in-order}
 use Rattle.reader.specs.Content.{Content, refused, holds, taken, formatPart, soundPart, soundSize, factPart, cuePart, playlistPart, recordAt, verdictAt, contentAt, contentIn, contentOf, reading, soundIn}
 use Rattle.reader.proofs.Demands.{tied}
 
-both : (a b : Bool) → fine a b ≡ true → b ≡ true
+both : (a b : Bool) → fine a b ≡ true → (a ≡ true) × (b ≡ true)
 unfolding fine
-both true b e = e
-both false b e = absurd (subst (λ (x : Bool). cond x ⊥ (Unit {0})) e tt)
+both a b e = and-both a b e
 
-kept-by : (fmt : List ℕ) (n : BytePlace) (fact cue plst : List ℕ) (m : Record) (w : List ℕ) → n ≡ record { 0 = length w }
-    → verdictOf fmt n fact cue plst m ≡ Accepted → Sounding (m .format) (m .frames) w
-unfolding verdictOf inOrder
-kept-by fmt n fact cue plst m w k e =
-    let x : Verdict = demand (playsFine plst (m .playlist) (m .cues) (m .frames)) PlaylistWrong Accepted in
-    let y : Verdict = demand (cuesFine cue (m .cues) (m .frames)) CuesWrong x in
-    let z : Verdict = demand (factFine fact (m .format) n (m .frames)) FactWrong y in
-    let u : Verdict = demand (wholeBlocks (m .format) n) NotWholeFrames z in
-    let p = demand-met (formatFine fmt (m .format)) FormatWrong u e in
-    let q = demand-met (wholeBlocks (m .format) n) NotWholeFrames z (p .1) in
-    let r = demand-met (factFine fact (m .format) n (m .frames)) FactWrong y (q .1) in
-    record {
-      rule = both (formatForm fmt) (formatRule (m .format)) (p .0);
-      whole = sym (ap (wholeBlocks (m .format)) k) ∙ q .0;
-      count = sym (ap (λ (i : BytePlace). framesRule (m .format) i (m .frames)) k) ∙ both (factForm fact) (framesRule (m .format) n (m .frames)) (r .0);
-    }
+-- ---- a file that is taken: where its chunks stand, and what they say
+pub record Held (s : List ℕ) (m : Record) (w : List ℕ) : Type 0 where
+  pub places : Directory
+  pub walked : directoryOf s ≡ Whole places
+  pub formatThere : isThere (places .format) ≡ true
+  pub soundThere : isThere (places .sound) ≡ true
+  pub verdict : verdictAt s places ≡ Accepted
+  pub made : recordAt s places ≡ m
+  pub sound : soundPart s places ≡ w
 
-abbrev KeptIn : Content → Type 0
-KeptIn (refused r) = Unit {0}
-KeptIn (holds m w) = Sounding (m .format) (m .frames) w
+abbrev HeldIn : List ℕ → Content → Type 0
+HeldIn s (refused r) = Unit {0}
+HeldIn s (holds m w) = Held s m w
 
-kept-in : (s : List ℕ) → KeptIn (contentOf s)
+held-in : (s : List ℕ) → HeldIn s (contentOf s)
 unfolding contentOf contentAt
-kept-in s = by (directoryOf s)
+held-in s = by (directoryOf s) refl
   where
-    taking : (v : Verdict) (m : Record) (w : List ℕ) → (v ≡ Accepted → Sounding (m .format) (m .frames) w) → KeptIn (taken v m w)
-    taking Accepted m w f = f refl
-    taking (Refused r) m w f = tt
+    at : (d : Directory) (a b : Bool) (v : Verdict) → directoryOf s ≡ Whole d → isThere (d .format) ≡ a → isThere (d .sound) ≡ b
+        → verdictAt s d ≡ v → HeldIn s (cond (a && b) (taken v (recordAt s d) (soundPart s d)) (refused FormatOrDataMissing))
+    at d true true Accepted e f g h =
+        record { places = d; walked = e; formatThere = f; soundThere = g; verdict = h; made = refl; sound = refl }
+    at d true true (Refused r) e f g h = tt
+    at d true false v e f g h = tt
+    at d false b v e f g h = tt
 
-    at : (d : Directory) (b : Bool) → KeptIn (cond b (taken (verdictAt s d) (recordAt s d) (soundPart s d)) (refused FormatOrDataMissing))
-    at d true = taking (verdictAt s d) (recordAt s d) (soundPart s d)
-        (kept-by (formatPart s d) (soundSize s d) (factPart s d) (cuePart s d) (playlistPart s d) (recordAt s d) (soundPart s d) refl)
-    at d false = tt
+    by : (w : Walked) → directoryOf s ≡ w → HeldIn s (contentIn s w)
+    by (Whole d) e = at d (isThere (d .format)) (isThere (d .sound)) (verdictAt s d) e refl refl refl
+    by (Stopped r) e = tt
 
-    by : (w : Walked) → KeptIn (contentIn s w)
-    by (Whole d) = at d (isThere (d .format) && isThere (d .sound))
-    by (Stopped r) = tt
+pub held : (s : List ℕ) {m : Record} {w : List ℕ} → holds m w ≡ contentOf s → Held s m w
+held s e = subst (HeldIn s) (sym e) (held-in s)
+
+-- each chunk has its form, and what it says keeps its rule
+pub record Formed (s : List ℕ) (d : Directory) : Type 0 where
+  pub format : formatForm (formatPart s d) ≡ true
+  pub fact : factForm (factPart s d) ≡ true
+  pub cues : cuesForm (cuePart s d) ≡ true
+  pub plays : playsForm (playlistPart s d) ≡ true
+  pub rules : Writable (recordAt s d) (soundSize s d)
+
+pub formed : (s : List ℕ) (d : Directory) → verdictAt s d ≡ Accepted → Formed s d
+unfolding verdictOf
+formed s d e =
+    let m : Record = recordAt s d in
+    let k =
+    in-order (formatFine (formatPart s d) (m .format)) (wholeBlocks (m .format) (soundSize s d)) (factFine (factPart s d) (m .format) (soundSize s d) (m .frames))
+    (cuesFine (cuePart s d) (m .cues) (m .frames)) (playsFine (playlistPart s d) (m .playlist) (m .cues) (m .frames)) e in
+    let f = both (formatForm (formatPart s d)) (formatRule (m .format)) (k .format) in
+    let g = both (factForm (factPart s d)) (framesRule (m .format) (soundSize s d) (m .frames)) (k .fact) in
+    let c = both (cuesForm (cuePart s d)) (cuesRule (m .cues) (m .frames)) (k .cues) in
+    let p = both (playsForm (playlistPart s d)) (playsRule (m .playlist) (m .cues) (m .frames)) (k .plays) in
+    record {
+      format = f .0;
+      fact = g .0;
+      cues = c .0;
+      plays = p .0;
+      rules = record { format = f .1; whole = k .whole; count = g .1; cues = c .1; plays = p .1 };
+    }
 
 -- ---- in the words of callers
 module _ (s : List ℕ) {x : Reading} (e : x ≡ reading s) where
@@ -81,5 +103,12 @@ module _ (s : List ℕ) {x : Reading} (e : x ≡ reading s) where
   pub content-taken : {w : List ℕ} → x .verdict ≡ Accepted → w ≡ soundIn s → holds (x .made) w ≡ contentOf s
   content-taken h g = ap (holds (x .made)) g ∙ told h
 
+-- what a file holds keeps the rules
+pub content-rules : (s : List ℕ) {m : Record} {w : List ℕ} → holds m w ≡ contentOf s → Writable m (record { 0 = length w })
+content-rules s {m} {w} e =
+    let h = held s e in
+    subst (λ (v : List ℕ). Writable m (record { 0 = length v })) (h .sound)
+    (subst (λ (x : Record). Writable x (soundSize s (h .places))) (h .made) (formed s (h .places) (h .verdict) .rules))
+
 pub content-kept : (s : List ℕ) {m : Record} {w : List ℕ} → holds m w ≡ contentOf s → Sounding (m .format) (m .frames) w
-content-kept s e = subst KeptIn (sym e) (kept-in s)
+content-kept s e = let k = content-rules s e in record { rule = k .format; whole = k .whole; count = k .count }
