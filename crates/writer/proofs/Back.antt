@@ -1,0 +1,108 @@
+-- What the file of a record holds: its chunks stand as they were laid, each says what was put into it, and together they
+-- get the record's own verdict. Assumes nothing.
+use mathlib.Core.Path.{_≡_, refl, sym, ap, _∙_, subst}
+use mathlib.Core.Bool.{Bool, true, false, cond, _&&_}
+use mathlib.Core.List.{List, [], _∷_}
+use Prim.Native.Nat.{ℕ, _≤_, _<_}
+use native.Mathlib.Omega.{arith}
+use lib.Dec.{leb}
+use lib.ListN.{length}
+use borrow.Author.Tests.{leb-true, leb-false}
+use Rattle.units.specs.declared.BytePlace.{BytePlace}
+use Rattle.units.specs.declared.Refusal.{Refusal}
+use Rattle.units.specs.declared.Refusal.the-variants.{FormatOrDataMissing}
+use Rattle.units.specs.declared.Verdict.{Verdict}
+use Rattle.units.specs.declared.Verdict.the-variants.{Accepted, Refused}
+use Rattle.riff.specs.declared.Directory.{Directory}
+use Rattle.riff.specs.declared.Walked.{Walked}
+use Rattle.riff.specs.Chunks.{isThere}
+use Rattle.riff.specs.Walk.{partOf, directoryOf}
+use Rattle.riff.specs.Demands.{Reads}
+use Rattle.riff.proofs.Laid.{laid-reads}
+use Rattle.formats.specs.declared.Format.{Format}
+use Rattle.formats.specs.Format.{formatOf, formatRule}
+use Rattle.formats.specs.Frames.{needsFact}
+use Rattle.formats.specs.Bytes.{formatBytes, factBytes}
+use Rattle.formats.proofs.Back.{format-back}
+use Rattle.tables.specs.Bytes.{cuesBytes, playsBytes}
+use Rattle.tables.proofs.Lengths as tables
+use Rattle.rules.specs.declared.Record.{Record}
+use Rattle.rules.specs.Rules.{recordOf, verdictOf, recordVerdict}
+use Rattle.rules.specs.Written.{recordKept, RecordFits, Carried}
+use Rattle.rules.proofs.Taken.{record-keeps}
+use Rattle.rules.proofs.Back.{verdict-back, record-back}
+use Rattle.reader.specs.Content.{Content, refused, taken, zeros, formatPart, soundPart, soundSize, factPart, cuePart, playlistPart, recordAt, verdictAt, contentAt, contentIn, contentOf}
+use Rattle.writer.specs.File.{partsOf, fileOf}
+
+-- a table is left out exactly where its bytes are those that are read in its place
+in-place : (count : ℕ) (bytes : List ℕ) → (count ≡ 0 → bytes ≡ zeros) → cond (leb 1 count) bytes zeros ≡ bytes
+in-place count bytes e = by (leb 1 count) refl
+  where
+    by : (b : Bool) → leb 1 count ≡ b → cond b bytes zeros ≡ bytes
+    by true t = refl
+    by false t = sym (e (let h = leb-false 1 count t in omega arith))
+
+-- so is a fact, where the format that is read is the one that was written
+fact-place : (b : Bool) (bytes : List ℕ) → cond b bytes (cond b [] zeros) ≡ cond b bytes zeros
+fact-place true bytes = refl
+fact-place false bytes = refl
+
+module _ (m : Record) (w : List ℕ) (h : RecordFits m) (k : Carried m (record { 0 = length w })) (l : length (fileOf m w) ≤ 1073741824) where
+  abbrev s : List ℕ
+  s = fileOf m w
+
+  laid : Reads s (partsOf m w)
+  unfolding fileOf
+  laid = laid-reads (partsOf m w) l
+
+  abbrev d : Directory
+  d = laid .places
+
+  abbrev n : BytePlace
+  n = record { 0 = length w }
+
+  -- ---- the parts
+  format-part : formatPart s d ≡ formatBytes (m .format)
+  unfolding partsOf
+  format-part = laid .format
+
+  sound-part : soundPart s d ≡ w
+  unfolding partsOf
+  sound-part = laid .sound
+
+  cue-part : cuePart s d ≡ cuesBytes (m .cues)
+  unfolding partsOf
+  cue-part = laid .cues zeros ∙ in-place (m .cues .count) (cuesBytes (m .cues)) (tables.cues-none (m .cues))
+
+  playlist-part : playlistPart s d ≡ playsBytes (m .playlist)
+  unfolding partsOf
+  playlist-part = laid .plays zeros ∙ in-place (m .playlist .count) (playsBytes (m .playlist)) (tables.plays-none (m .playlist))
+
+  fact-part : formatRule (m .format) ≡ true → factPart s d ≡ cond (needsFact (m .format)) (factBytes (m .frames)) zeros
+  unfolding partsOf
+  fact-part e =
+      let f : formatOf (formatPart s d) ≡ m .format = ap formatOf format-part ∙ format-back (m .format) e in
+      laid .fact (cond (needsFact (formatOf (formatPart s d))) [] zeros)
+      ∙ ap (λ (g : Format). cond (needsFact (m .format)) (factBytes (m .frames)) (cond (needsFact g) [] zeros)) f
+      ∙ fact-place (needsFact (m .format)) (factBytes (m .frames))
+
+  -- ---- what they say, and the verdict on them
+  record-at : recordAt s d ≡ recordOf (formatBytes (m .format)) n (factPart s d) (cuesBytes (m .cues)) (playsBytes (m .playlist))
+  record-at = λ i. recordOf (format-part i) (record { 0 = length (sound-part i) }) (factPart s d) (cue-part i) (playlist-part i)
+
+  verdict-at : verdictAt s d ≡ recordVerdict m n
+  verdict-at =
+      (λ i. verdictOf (format-part i) (record { 0 = length (sound-part i) }) (factPart s d) (cue-part i) (playlist-part i) (record-at i))
+      ∙ verdict-back m n h fact-part k
+
+  pub content-back : contentOf s ≡ taken (recordVerdict m n) (recordKept m) w
+  unfolding contentOf contentAt
+  content-back =
+      ap (contentIn s) (laid .walked)
+      ∙ (λ i. cond (laid .formatThere i && laid .soundThere i) (taken (verdictAt s d) (recordAt s d) (soundPart s d)) (refused FormatOrDataMissing))
+      ∙ (λ i. taken (verdict-at i) (record-at i) (sound-part i))
+      ∙ by (recordVerdict m n) refl
+    where
+      by : (v : Verdict) → recordVerdict m n ≡ v → taken v (recordOf (formatBytes (m .format)) n (factPart s d) (cuesBytes (m .cues)) (playsBytes (m .playlist))) w ≡ taken v (recordKept m) w
+      by Accepted e = ap (λ (x : Record). taken Accepted x w) (record-back m n h fact-part (record-keeps m n e))
+      by (Refused r) e = refl

@@ -1,0 +1,137 @@
+-- Demand 2 of written files: each by what the file of a record holds, and by what the verdict on it says. Assumes nothing.
+use mathlib.Core.Path.{_≡_, refl, sym, ap, _∙_, subst}
+use mathlib.Core.Bool.{Bool, true, false, cond}
+use mathlib.Core.List.{List}
+use Prim.Native.Nat.{ℕ, _≤_, _<_}
+use native.Mathlib.Omega.{arith}
+use lib.Dec.{leb}
+use lib.ListN.{length}
+use borrow.Author.Tests.{leb-true, leb-false, le-leb, lt-leb}
+use Rattle.units.specs.declared.BytePlace.{BytePlace}
+use Rattle.units.specs.declared.Refusal.{Refusal}
+use Rattle.units.specs.declared.Refusal.the-variants.{LengthOutOfRange, FormatWrong, FactWrong, OutputTooSmall}
+use Rattle.units.specs.declared.Verdict.{Verdict}
+use Rattle.units.specs.declared.Verdict.the-variants.{Accepted, Refused}
+use Rattle.units.specs.Refusals.{demand}
+use Rattle.riff.specs.declared.Walked.{Walked}
+use Rattle.riff.proofs.Walking.{whole-limit, too-long}
+use Rattle.formats.specs.Frames.{needsFact}
+use Rattle.rules.specs.declared.Record.{Record}
+use Rattle.rules.specs.Rules.{recordVerdict, Writable}
+use Rattle.rules.specs.Written.{recordKept, RecordFits, Carried}
+use Rattle.rules.proofs.Taken.{record-taken}
+use Rattle.rules.proofs.Back.{carried}
+use Rattle.reader.specs.Content.{Content, holds, taken, contentIn, contentOf, readingOf, soundOf, reading, soundIn}
+use Rattle.reader.proofs.Kept.{Held, held, content-taken, content-rules}
+use Rattle.writer.specs.declared.Written.{Written}
+use Rattle.writer.specs.declared.Written.the-variants.{Bytes}
+use Rattle.writer.specs.declared.Written.the-variants as written
+use Rattle.writer.specs.File.{fileOf, andThen, writable, settled, answer, writing}
+use Rattle.writer.specs.Demands.{ReadsBack, Back, Rewritten, Again, Carries, SameNumber}
+use Rattle.writer.proofs.Files.{Settled, settled-says}
+use Rattle.writer.proofs.Back.{content-back}
+use Rattle.writer.proofs.Room.{not-longer}
+
+abbrev sizeOf : List ℕ → BytePlace
+sizeOf w = record { 0 = length w }
+
+-- ---- what an answer says of the verdict
+module _ (m : Record) (w : List ℕ) (room : ℕ) where
+  pub bytes-say : (n : BytePlace) → writing m w room ≡ Bytes n → settled m w room ≡ Accepted
+  unfolding writing
+  bytes-say n = by (settled m w room)
+    where
+      by : (v : Verdict) → answer v (sizeOf (fileOf m w)) ≡ Bytes n → v ≡ Accepted
+      by Accepted e = refl
+      by (Refused r) e = let z : _≡_ {A = ℕ} 0 1 = cc in absurd (omega arith)
+
+  pub refused-says : (r : Refusal) → writing m w room ≡ written.Refused r → settled m w room ≡ Refused r
+  unfolding writing
+  refused-says r = by (settled m w room)
+    where
+      by : (v : Verdict) → answer v (sizeOf (fileOf m w)) ≡ written.Refused r → v ≡ Refused r
+      by Accepted e = let z : _≡_ {A = ℕ} 0 1 = cc in absurd (omega arith)
+      by (Refused q) e = cc
+
+-- ---- what is written reads back
+pub content-written : (m : Record) (w : List ℕ) (room : ℕ) (n : BytePlace) → RecordFits m → writing m w room ≡ Bytes n
+    → contentOf (fileOf m w) ≡ holds (recordKept m) w
+content-written m w room n h e =
+    let s = settled-says m w room (bytes-say m w room n e) in
+    content-back m w h (carried (s .rules)) (s .limit) ∙ ap (λ (v : Verdict). taken v (recordKept m) w) (record-taken (s .rules))
+
+pub back : Back
+unfolding Back reading soundIn
+back m w room n h e =
+    let c = content-written m w room n h e in
+    record {
+      verdict = ap (λ (x : Content). readingOf x .verdict) c;
+      made = ap (λ (x : Content). readingOf x .made) c;
+      sound = ap soundOf c;
+    }
+
+-- ---- what is read is written again
+accepted : (m : Record) (w : List ℕ) (room : ℕ) → Writable m (sizeOf w) → length (fileOf m w) ≤ 1073741824 → length (fileOf m w) ≤ room
+    → writing m w room ≡ Bytes (sizeOf (fileOf m w))
+unfolding writing settled writable
+accepted m w room k l r =
+    let a = record-taken k in
+    let b = le-leb (length (fileOf m w)) 1073741824 l in
+    let c = le-leb (length (fileOf m w)) room r in
+    simp (a, b, c)
+
+pub again : Again
+unfolding Again
+again s room e l =
+    let m : Record = reading s .made in
+    let w : List ℕ = soundIn s in
+    let c : holds m w ≡ contentOf s = content-taken s refl e refl in
+    let h = held s c in
+    let n = not-longer s (h .places) (h .walked) (h .formatThere) (h .soundThere) (h .verdict) in
+    let f : length (fileOf m w) ≤ length s = subst (λ (k : ℕ). k ≤ length s) (λ i. length (fileOf (h .made i) (h .sound i))) n in
+    let i = whole-limit s refl (h .walked) in
+    record {
+      bytes = sizeOf (fileOf m w);
+      written = accepted m w room (content-rules s c) (omega arith) (omega arith);
+      shorter = f;
+    }
+
+-- ---- a refusal is the number that reading gives
+same : (q r : Refusal) → _≡_ {A = Verdict} (Refused q) (Refused r) → q ≡ r
+same q r e = cc
+
+-- within the limit, a refusal for something other than room is the rules'
+ruled : (m : Record) (w : List ℕ) (room : ℕ) (r : Refusal) → length (fileOf m w) ≤ 1073741824 → (r ≡ OutputTooSmall → ⊥)
+    → settled m w room ≡ Refused r → recordVerdict m (sizeOf w) ≡ Refused r
+unfolding settled writable
+ruled m w room r l n = by (recordVerdict m (sizeOf w)) (leb (length (fileOf m w)) 1073741824) (leb (length (fileOf m w)) room) (le-leb (length (fileOf m w)) 1073741824 l)
+  where
+    by : (v : Verdict) (a b : Bool) → a ≡ true
+        → andThen (andThen v (demand a LengthOutOfRange Accepted)) (demand b OutputTooSmall Accepted) ≡ Refused r → v ≡ Refused r
+    by (Refused q) a b t e = e
+    by Accepted true true t e = e
+    by Accepted true false t e = absurd (n (sym (same OutputTooSmall r e)))
+    by Accepted false b t e = let z : _≡_ {A = ℕ} 0 1 = cc in absurd (omega arith)
+
+reading-long : (s : List ℕ) → 1073741824 < length s → reading s .verdict ≡ Refused LengthOutOfRange
+unfolding reading contentOf
+reading-long s h = ap (λ (x : Walked). readingOf (contentIn s x) .verdict) (too-long s h)
+
+taken-verdict : (v : Verdict) (m : Record) (w : List ℕ) → readingOf (taken v m w) .verdict ≡ v
+taken-verdict Accepted m w = refl
+taken-verdict (Refused q) m w = refl
+
+pub same-number : SameNumber
+unfolding SameNumber reading
+same-number m w room r h k e = by (leb (length (fileOf m w)) 1073741824) refl
+  where
+    by : (b : Bool) → leb (length (fileOf m w)) 1073741824 ≡ b → reading (fileOf m w) .verdict ≡ Refused r
+    by true t =
+        let l = leb-true (length (fileOf m w)) 1073741824 t in
+        let v = ruled m w room r l (k .room) (refused-says m w room r e) in
+        let c : Carried m (sizeOf w) =
+        record { samples = λ x. k .samples (same r FormatWrong (sym v ∙ x)); frames = λ x. k .frames (same r FactWrong (sym v ∙ x)) } in
+        ap (λ (x : Content). readingOf x .verdict) (content-back m w h c l) ∙ taken-verdict (recordVerdict m (sizeOf w)) (recordKept m) w ∙ v
+    by false t =
+        let l = leb-false (length (fileOf m w)) 1073741824 t in
+        reading-long (fileOf m w) l ∙ ap Refused (sym (k .limit l))
