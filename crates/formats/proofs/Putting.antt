@@ -3,6 +3,7 @@ use mathlib.Core.Path.{_≡_, refl, subst}
 use mathlib.Core.Bool.{true}
 use mathlib.Core.List.{List, _++_, append-nil}
 use Prim.Native.Nat.{ℕ, _+_, _*_, _/_, _≤_, _<_}
+use native.Mathlib.Nat.{mul-le-mul}
 use native.Mathlib.Omega.{arith}
 use lib.ListN.{length}
 use mir.Syntax.{w32}
@@ -28,16 +29,19 @@ module _ (f : Format) (e : formatRule f ≡ true) where
       let a : f .align < 4097 = omega (arith, taken-most f e) in
       product-fits r a tt
 
+  pub average-most : f .rate * f .align ≤ 192000 * 4096
+  average-most = mul-le-mul (taken-rate f e) (taken-most f e)
+
 module _ (f : Format) where
   pub average-pcm : f .tag ≡ 1 → f .rate * f .align ≡ averageOf f
   unfolding averageOf
   average-pcm t = simp tests
 
-  pub average-blocks : (f .tag ≡ 1 → ⊥) → f .rate * f .align / f .samples ≡ averageOf f
+  pub average-blocks : {r : ℕ} → (f .tag ≡ 1 → ⊥) → r ≡ f .rate * f .align / f .samples → r ≡ averageOf f
   unfolding averageOf
-  average-blocks t = simp tests
+  average-blocks t e = simp (tests, e)
 
-pub ruleset averaging = (average-fits, taken-samples, average-pcm, average-blocks)
+pub ruleset averaging = (average-fits, average-most, taken-samples, average-pcm, average-blocks)
 
 -- ---- the parts of a `fmt `
 module _ {d e g : List ℕ} {at : ℕ} where

@@ -8,7 +8,7 @@ use units::Frames;
 ghost use mathlib.Core.Path.{_≡_};
 ghost use mathlib.Core.Bool.{true, _||_};
 ghost use mathlib.Core.List.{_++_};
-ghost use Prim.Native.Nat.{_+_, _%_, _≤_, _<_};
+ghost use Prim.Native.Nat.{_+_, _*_, _/_, _%_, _≤_, _<_};
 ghost use lib.Dec.{eqb};
 ghost use lib.IntN.{pos};
 ghost use lib.ListN.{length, getD};
@@ -355,6 +355,15 @@ pub fn format_size(format: Format) -> usize
     16
 }
 
+// The bytes of a second, where a block's samples share them: rounded down.
+fn shared_by(bytes: u32, samples: u16) -> u32
+    requires { ⌜ 1 ≤ samples ⌝ }
+    requires { ⌜ bytes ≤ 192000 * 4096 ⌝ }
+    ensures { λ r. ⌜ r ≡ bytes / samples ⌝ }
+{
+    bytes / samples as u32
+}
+
 // The bytes of a second: of ADPCM, rounded down.
 fn average_of(format: Format) -> u32
     requires { ⌜ formatRule format ≡ true ⌝ }
@@ -364,7 +373,7 @@ fn average_of(format: Format) -> u32
     if format.tag == PCM {
         return bytes;
     }
-    bytes / format.samples as u32
+    shared_by(bytes, format.samples)
 }
 
 // Puts tag, channels and rate.

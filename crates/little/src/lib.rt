@@ -99,15 +99,6 @@ fn put_few(out: &mut [u8], at: usize, bytes: &[u8])
     }
 }
 
-// Copies the four bytes from i on to a place.
-fn put_four(out: &mut [u8], at: usize, bytes: &[u8], i: usize)
-    requires { ⌜ at + 4 ≤ length (now out) ⌝ }
-    requires { ⌜ i + 4 ≤ length (now bytes) ⌝ }
-    ensures { λ _. ⌜ Put (now (out .entry)) at (take 4 (drop i (now (bytes .entry)))) (now (out .exit)) ⌝ }
-{
-    put_u32(out, at, u32_at(bytes, i));
-}
-
 // Copies the sixteen bytes from i on to a place. All are read before the first is written, so that
 // a machine can move them as one.
 fn put_sixteen(out: &mut [u8], at: usize, bytes: &[u8], i: usize)
@@ -137,44 +128,6 @@ fn put_many(out: &mut [u8], at: usize, bytes: &[u8], i: usize)
     put_sixteen(out, at + 48, bytes, i + 48);
 }
 
-// Copies a run of bytes to a place, four at a turn. The last four are then copied whole, some
-// perhaps a second time, so that none is left over.
-fn put_by_four(out: &mut [u8], at: usize, bytes: &[u8])
-    requires { ⌜ at + length (now bytes) ≤ length (now out) ⌝ }
-    ensures { λ _. ⌜ Put (now (out .entry)) at (now (bytes .entry)) (now (out .exit)) ⌝ }
-{
-    let n = bytes.len();
-    if n < 4 {
-        put_few(out, at, bytes);
-        return;
-    }
-    let mut i = 0;
-    while 4 < n - i {
-        put_four(out, at + i, bytes, i);
-        i += 4;
-    }
-    put_four(out, at + (n - 4), bytes, n - 4);
-}
-
-// Copies a run of bytes to a place, sixteen at a turn. The last sixteen are then copied whole, some
-// perhaps a second time, so that none is left over.
-fn put_by_sixteen(out: &mut [u8], at: usize, bytes: &[u8])
-    requires { ⌜ at + length (now bytes) ≤ length (now out) ⌝ }
-    ensures { λ _. ⌜ Put (now (out .entry)) at (now (bytes .entry)) (now (out .exit)) ⌝ }
-{
-    let n = bytes.len();
-    if n < 16 {
-        put_by_four(out, at, bytes);
-        return;
-    }
-    let mut i = 0;
-    while 16 < n - i {
-        put_sixteen(out, at + i, bytes, i);
-        i += 16;
-    }
-    put_sixteen(out, at + (n - 16), bytes, n - 16);
-}
-
 // Copies a run of bytes to a place, 64 at a turn. The last 64 are then copied whole, some
 // perhaps a second time, so that none is left over.
 pub fn put_bytes(out: &mut [u8], at: usize, bytes: &[u8])
@@ -183,7 +136,7 @@ pub fn put_bytes(out: &mut [u8], at: usize, bytes: &[u8])
 {
     let n = bytes.len();
     if n < 64 {
-        put_by_sixteen(out, at, bytes);
+        put_few(out, at, bytes);
         return;
     }
     let mut i = 0;

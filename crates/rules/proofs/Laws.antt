@@ -56,62 +56,52 @@ unfolding recordOf
 record-made fmt n fact cue plst a b d e = simp (b, a, d, e)
 
 -- ---- the verdict, 9 to 13
-pub of-chunks : (fmt : List ℕ) (n : BytePlace) (fact cue plst : List ℕ) (m : Record) {v : Verdict}
-    → v
-    ≡ inOrder
-    (formatFine fmt (m .format))
-    (wholeBlocks (m .format) n)
-    (factFine fact (m .format) n (m .frames))
-    (cuesFine cue (m .cues) (m .frames))
-    (playsFine plst (m .playlist) (m .cues) (m .frames))
-    → v ≡ verdictOf fmt n fact cue plst m
-unfolding verdictOf
-of-chunks fmt n fact cue plst m e = e
-
-pub of-record : (m : Record) (n : BytePlace) {v : Verdict}
-    → v
-    ≡ inOrder
-    (formatRule (m .format))
-    (wholeBlocks (m .format) n)
-    (framesRule (m .format) n (m .frames))
-    (cuesRule (m .cues) (m .frames))
-    (playsRule (m .playlist) (m .cues) (m .frames))
-    → v ≡ recordVerdict m n
-unfolding recordVerdict
-of-record m n e = e
-
-module _ (a′ b′ d′ i′ j′ : Bool) {a : Bool} (e : a ≡ a′) where
-  pub judge-format : not a ≡ true → Refused FormatWrong ≡ inOrder a′ b′ d′ i′ j′
+module _ (a b d i j : Bool) where
+  pub judge-format : not a ≡ true → Refused FormatWrong ≡ inOrder a b d i j
   unfolding inOrder
-  judge-format t = simp (sym e ∙ not-true a t)
+  judge-format t = simp (not-true a t)
 
-  module _ (t : not a ≡ false) {b : Bool} (f : b ≡ b′) where
-    pub judge-blocks : not b ≡ true → Refused NotWholeFrames ≡ inOrder a′ b′ d′ i′ j′
+  module _ (t : not a ≡ false) where
+    pub judge-blocks : not b ≡ true → Refused NotWholeFrames ≡ inOrder a b d i j
     unfolding inOrder
-    judge-blocks u = simp (sym e ∙ not-false a t, sym f ∙ not-true b u)
+    judge-blocks u = simp (not-false a t, not-true b u)
 
-    module _ (u : not b ≡ false) {d : Bool} (g : d ≡ d′) where
-      pub judge-fact : not d ≡ true → Refused FactWrong ≡ inOrder a′ b′ d′ i′ j′
+    module _ (u : not b ≡ false) where
+      pub judge-fact : not d ≡ true → Refused FactWrong ≡ inOrder a b d i j
       unfolding inOrder
-      judge-fact v = simp (sym e ∙ not-false a t, sym f ∙ not-false b u, sym g ∙ not-true d v)
+      judge-fact v = simp (not-false a t, not-false b u, not-true d v)
 
-      module _ (v : not d ≡ false) {i : Bool} (h : i ≡ i′) where
-        pub judge-cues : not i ≡ true → Refused CuesWrong ≡ inOrder a′ b′ d′ i′ j′
+      module _ (v : not d ≡ false) where
+        pub judge-cues : not i ≡ true → Refused CuesWrong ≡ inOrder a b d i j
         unfolding inOrder
-        judge-cues w = simp (sym e ∙ not-false a t, sym f ∙ not-false b u, sym g ∙ not-false d v, sym h ∙ not-true i w)
+        judge-cues w = simp (not-false a t, not-false b u, not-false d v, not-true i w)
 
-        module _ (w : not i ≡ false) {j : Bool} (k : j ≡ j′) where
-          pub judge-plays : not j ≡ true → Refused PlaylistWrong ≡ inOrder a′ b′ d′ i′ j′
+        module _ (w : not i ≡ false) where
+          pub judge-plays : not j ≡ true → Refused PlaylistWrong ≡ inOrder a b d i j
           unfolding inOrder
-          judge-plays x =
-              simp (sym e ∙ not-false a t, sym f ∙ not-false b u, sym g ∙ not-false d v, sym h ∙ not-false i w, sym k ∙ not-true j x)
+          judge-plays x = simp (not-false a t, not-false b u, not-false d v, not-false i w, not-true j x)
 
-          pub judge-taken : not j ≡ false → Accepted ≡ inOrder a′ b′ d′ i′ j′
+          pub judge-taken : not j ≡ false → Accepted ≡ inOrder a b d i j
           unfolding inOrder
-          judge-taken x =
-              simp (sym e ∙ not-false a t, sym f ∙ not-false b u, sym g ∙ not-false d v, sym h ∙ not-false i w, sym k ∙ not-false j x)
+          judge-taken x = simp (not-false a t, not-false b u, not-false d v, not-false i w, not-false j x)
 
-pub ruleset judging = (of-chunks, of-record, judge-format, judge-blocks, judge-fact, judge-cues, judge-plays, judge-taken)
+pub ruleset judging = (judge-format, judge-blocks, judge-fact, judge-cues, judge-plays, judge-taken)
+
+-- of the chunks of a file, and of a record to be written
+module _ {a b d i j : Bool} {v : Verdict} (h : v ≡ inOrder a b d i j) where
+  pub of-chunks : (fmt : List ℕ) (n : BytePlace) (fact cue plst : List ℕ) (m : Record) → a ≡ formatFine fmt (m .format)
+      → b ≡ wholeBlocks (m .format) n → d ≡ factFine fact (m .format) n (m .frames) → i ≡ cuesFine cue (m .cues) (m .frames)
+      → j ≡ playsFine plst (m .playlist) (m .cues) (m .frames) → v ≡ verdictOf fmt n fact cue plst m
+  unfolding verdictOf
+  of-chunks fmt n fact cue plst m e f g k l = h ∙ (λ x. inOrder (e x) (f x) (g x) (k x) (l x))
+
+  pub of-record : (m : Record) (n : BytePlace) → a ≡ formatRule (m .format) → b ≡ wholeBlocks (m .format) n
+      → d ≡ framesRule (m .format) n (m .frames) → i ≡ cuesRule (m .cues) (m .frames)
+      → j ≡ playsRule (m .playlist) (m .cues) (m .frames) → v ≡ recordVerdict m n
+  unfolding recordVerdict
+  of-record m n e f g k l = h ∙ (λ x. inOrder (e x) (f x) (g x) (k x) (l x))
+
+pub ruleset ordering = (of-chunks, of-record)
 
 -- ---- the answer
 module _ (fmt : List ℕ) (n : BytePlace) (fact cue plst : List ℕ) {m : Record} (e : m ≡ recordOf fmt n fact cue plst) {v : Verdict} (f : v ≡ verdictOf fmt n fact cue plst m) where

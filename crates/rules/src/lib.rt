@@ -11,7 +11,7 @@ use units::Refusal;
 use units::Verdict;
 ghost use mathlib.Core.Path.{_≡_};
 ghost use Prim.Native.Nat.{_<_};
-ghost use Rattle.rules.specs.Rules.{formatFine, factFine, cuesFine, playsFine, verdictOf, recordVerdict, blank, turnedAway, recordOf, judged};
+ghost use Rattle.rules.specs.Rules.{formatFine, factFine, cuesFine, playsFine, inOrder, verdictOf, recordVerdict, blank, turnedAway, recordOf, judged};
 
 // What a WAVE file says besides its sound.
 pub struct Record {
@@ -109,6 +109,28 @@ fn plays_fine(bytes: &[u8], playlist: Playlist, cues: Cues, frames: Frames) -> b
     tables::plays_rule(playlist, cues, frames)
 }
 
+// The verdict by five demands, each met or not: the first that is not met decides.
+fn in_order(format: bool, whole: bool, fact: bool, cues: bool, plays: bool) -> Verdict
+    ensures { λ r. ⌜ r ≡ inOrder format whole fact cues plays ⌝ }
+{
+    if !format {
+        return Verdict::Refused(Refusal::FormatWrong);
+    }
+    if !whole {
+        return Verdict::Refused(Refusal::NotWholeFrames);
+    }
+    if !fact {
+        return Verdict::Refused(Refusal::FactWrong);
+    }
+    if !cues {
+        return Verdict::Refused(Refusal::CuesWrong);
+    }
+    if !plays {
+        return Verdict::Refused(Refusal::PlaylistWrong);
+    }
+    Verdict::Accepted
+}
+
 // The verdict on the chunks of a file, whose record they make.
 fn verdict_of(
     fmt: &[u8],
@@ -125,26 +147,11 @@ fn verdict_of(
     let cues = made.cues;
     let playlist = made.playlist;
     let format_kept = format_fine(fmt, format);
-    if !format_kept {
-        return Verdict::Refused(Refusal::FormatWrong);
-    }
     let whole = formats::whole_blocks(format, sound);
-    if !whole {
-        return Verdict::Refused(Refusal::NotWholeFrames);
-    }
     let fact_kept = fact_fine(fact, format, sound, frames);
-    if !fact_kept {
-        return Verdict::Refused(Refusal::FactWrong);
-    }
     let cues_kept = cues_fine(cue, cues, frames);
-    if !cues_kept {
-        return Verdict::Refused(Refusal::CuesWrong);
-    }
     let plays_kept = plays_fine(plst, playlist, cues, frames);
-    if !plays_kept {
-        return Verdict::Refused(Refusal::PlaylistWrong);
-    }
-    Verdict::Accepted
+    in_order(format_kept, whole, fact_kept, cues_kept, plays_kept)
 }
 
 // The verdict on a record that is to be written with some bytes of sound.
@@ -156,26 +163,11 @@ pub fn record_verdict(made: Record, sound: BytePlace) -> Verdict
     let cues = made.cues;
     let playlist = made.playlist;
     let format_kept = formats::format_rule(format);
-    if !format_kept {
-        return Verdict::Refused(Refusal::FormatWrong);
-    }
     let whole = formats::whole_blocks(format, sound);
-    if !whole {
-        return Verdict::Refused(Refusal::NotWholeFrames);
-    }
     let frames_kept = formats::frames_rule(format, sound, frames);
-    if !frames_kept {
-        return Verdict::Refused(Refusal::FactWrong);
-    }
     let cues_kept = tables::cues_rule(cues, frames);
-    if !cues_kept {
-        return Verdict::Refused(Refusal::CuesWrong);
-    }
     let plays_kept = tables::plays_rule(playlist, cues, frames);
-    if !plays_kept {
-        return Verdict::Refused(Refusal::PlaylistWrong);
-    }
-    Verdict::Accepted
+    in_order(format_kept, whole, frames_kept, cues_kept, plays_kept)
 }
 
 // What the chunks of a file say.
