@@ -1,11 +1,11 @@
 -- The chunks that are written of a record get the record's own verdict, and say the record again: chunk by chunk, as far
 -- as the demands before are met. Assumes nothing.
 use mathlib.Core.Path.{_≡_, refl, sym, ap, _∙_, subst}
-use mathlib.Core.Bool.{Bool, true, false, not, cond, _&&_}
+use mathlib.Core.Bool.{Bool, true, false, cond, _&&_}
 use mathlib.Core.List.{List, [], _∷_}
 use Prim.Native.Nat.{ℕ, _≤_, _<_}
 use native.Mathlib.Omega.{arith}
-use lib.Dec.{leb, eqb}
+use lib.Dec.{leb}
 use lib.ListN.{length}
 use borrow.Author.Tests.{le-leb, lt-leb, leb-true, leb-false}
 use Rattle.little.specs.Numbers.{numberAt}
@@ -18,7 +18,7 @@ use Rattle.units.specs.declared.Verdict.{Verdict}
 use Rattle.units.specs.declared.Verdict.the-variants.{Accepted, Refused}
 use Rattle.formats.specs.declared.Format.{Format}
 use Rattle.formats.specs.Format.{formatOf, formatForm, formatRule}
-use Rattle.formats.specs.Frames.{wholeBlocks, blocksIn, framesOf, factForm, needsFact, framesRule}
+use Rattle.formats.specs.Frames.{wholeBlocks, framesOf, factForm, needsFact, framesRule}
 use Rattle.formats.specs.Bytes.{formatBytes, factBytes}
 use Rattle.formats.proofs.Back.{format-back, format-carried, fact-back}
 use Rattle.formats.proofs.Counts.{frames-pcm, frames-stored}
@@ -27,9 +27,9 @@ use Rattle.formats.proofs.Taken.{unneeded-tag, wanted-tag, frames-exactly}
 use Rattle.formats.proofs.Written.{format-written}
 use Rattle.tables.specs.declared.Cues.{Cues}
 use Rattle.tables.specs.declared.Playlist.{Playlist}
-use Rattle.tables.specs.Cues.{cuesOf, cuesForm, cuesRule}
-use Rattle.tables.specs.Plays.{playsOf, playsForm, playsRule}
-use Rattle.tables.specs.Bytes.{cuesBytes, playsBytes, cuesKept, playsKept, CuesFit, PlaysFit}
+use Rattle.tables.specs.Cues.{cuesOf, cuesRule}
+use Rattle.tables.specs.Plays.{playsOf, playsRule}
+use Rattle.tables.specs.Bytes.{cuesBytes, playsBytes, playsKept, CuesFit, PlaysFit}
 use Rattle.tables.proofs.Back.{cues-back, plays-back}
 use Rattle.tables.proofs.Kept.{cues-rule-kept, plays-rule-kept}
 use Rattle.tables.proofs.Written.{cues-written, cues-many, plays-written, plays-many}

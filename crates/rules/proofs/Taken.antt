@@ -1,10 +1,10 @@
 -- What a verdict of five demands says where it takes, and what it is where all are met. Assumes nothing.
-use mathlib.Core.Path.{_≡_, refl, sym}
-use mathlib.Core.Bool.{Bool, true, false}
+use mathlib.Core.Path.{_≡_}
+use mathlib.Core.Bool.{Bool, true}
 use Rattle.units.specs.declared.BytePlace.{BytePlace}
 use Rattle.units.specs.declared.Refusal.the-variants.{FormatWrong, NotWholeFrames, FactWrong, CuesWrong, PlaylistWrong}
 use Rattle.units.specs.declared.Verdict.{Verdict}
-use Rattle.units.specs.declared.Verdict.the-variants.{Accepted, Refused}
+use Rattle.units.specs.declared.Verdict.the-variants.{Accepted}
 use Rattle.units.specs.Refusals.{demand}
 use Rattle.units.proofs.Laws.{demand-met}
 use Rattle.formats.specs.Format.{formatRule}

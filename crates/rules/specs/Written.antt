@@ -1,5 +1,5 @@
 -- What is read back of a record that is written, and which faults its bytes carry. Assumes nothing.
-use Prim.Native.Nat.{ℕ, _<_}
+use Prim.Native.Nat.{_<_}
 use mathlib.Core.Path.{_≡_}
 use mathlib.Core.Bool.{true}
 use Rattle.units.specs.declared.BytePlace.{BytePlace}

@@ -6,14 +6,14 @@ use Prim.Native.Nat.{ℕ, zero, suc, _+_, _-_, _*_, _/_, _%_, _≤_, _<_}
 use native.Mathlib.Nat.{le-refl}
 use native.Mathlib.Omega.{arith}
 use lib.IntN.{ℤ, pos}
-use lib.Seq.{take-add, drop-nil, drop-cons, drop-drop, drop-append-add}
+use lib.Seq.{drop-nil, drop-cons, drop-drop, drop-append-add}
 use lib.ListN.{length, take, drop, getD, set, length-map, List·getD-map, length-append, length-drop, take-append-drop, drop-of-length-le}
 use mir.Syntax.{w16}
 use mir.Val.{SFits}
 use mir.Facts.{toZ-ofZ}
 use Rattle.little.specs.Numbers.{numberIn, numberAt}
 use Rattle.little.specs.Writing.{Put, writeAt, front}
-use Rattle.little.proofs.Filling.{Filled, Written, filled-none, filled-store, filled-put, put-next, four-stores, part-long, drop-next, front-begins, front-room, front-next, front-piece, front-ends}
+use Rattle.little.proofs.Filling.{Filled, Written, filled-none, filled-store, filled-put, put-parts, four-parts, four-stores, part-long, drop-next, front-begins, front-room, front-next, front-piece, front-ends}
 use Rattle.little.proofs.Reading.{length-bytes}
 use Rattle.samples.specs.Sound.{signedOf, bitsOf, sampleAt, sampleBytes, samplesIn, soundBytes, eight}
 use Rattle.samples.proofs.Signed.{back}
@@ -117,40 +117,26 @@ module _ {a b c d : ℤ} (f : SFits w16 a) (g : SFits w16 b) (h : SFits w16 c) (
       → Put out at (a ∷ b ∷ c ∷ d ∷ []) (set (set (set (set out at (back w16 a)) (at + 1) (back w16 b)) (at + 2) (back w16 c)) (at + 3) (back w16 d))
   four-put {out} {at} r = record { same = four-stores r .same ∙ ap (writeAt out at) four-back }
 
--- of samples ys, m from i on and n from j on, behind them, are put: m + n from i on
-module _ (ys : List ℤ) {out e g : List ℤ} (i j m n : ℕ) where
-  parts-put : Put out i (take m (drop i ys)) e → Put e j (take n (drop j ys)) g
-      → j ≡ i + m → j + n ≤ length ys → j + n ≤ length out → Put out i (take (m + n) (drop i ys)) g
-  parts-put p q b h r =
-      subst (λ (l : List ℤ). Put out i l g)
-      (ap (λ (k : ℕ). take m (drop i ys) ++ take n (drop k ys)) b
-      ∙ ap (λ (l : List ℤ). take m (drop i ys) ++ take n l) (sym (drop-drop m i ys))
-      ∙ sym (take-add m n (drop i ys)))
-      (put-next p q
-      (omega (arith, part-long ys i m (omega arith)))
-      (omega (arith, part-long ys j n h)))
-
 module _ (s : List ℕ) (i : ℕ) {out a b : List ℤ} where
   pub twice-four : {x y : List ℤ} → x ≡ take 4 (drop i (samplesIn s)) → y ≡ take 4 (drop (i + 4) (samplesIn s))
       → Put out i x a → Put a (i + 4) y b → i + 8 ≤ length s / 2 → i + 8 ≤ length out → Put out i (take 8 (drop i (samplesIn s))) b
   twice-four d e p q h r =
-      parts-put (samplesIn s) i (i + 4) 4 4
+      put-parts (samplesIn s) i (i + 4) 4 4
       (subst (λ (l : List ℤ). Put out i l a) d p)
       (subst (λ (l : List ℤ). Put a (i + 4) l b) e q)
       refl
-      (omega (arith, length-samples s))
+      refl
       (omega arith)
+      (omega (arith, length-samples s))
 
   pub four-eights : {c d : List ℤ} → Put out i (take 8 (drop i (samplesIn s))) a
       → Put a (i + 8) (take 8 (drop (i + 8) (samplesIn s))) b → Put b (i + 16) (take 8 (drop (i + 16) (samplesIn s))) c
       → Put c (i + 24) (take 8 (drop (i + 24) (samplesIn s))) d → i + 32 ≤ length s / 2 → i + 32 ≤ length out
       → Put out i (take 32 (drop i (samplesIn s))) d
   four-eights p q t u h r =
-      let ys : List ℤ = samplesIn s in
       let l = length-samples s in
-      let v = parts-put ys i (i + 8) 8 8 p q refl (omega arith) (omega arith) in
-      let w = parts-put ys i (i + 16) 16 8 v t refl (omega arith) (omega arith) in
-      parts-put ys i (i + 24) 24 8 w u refl (omega arith) (omega arith)
+      four-parts 8 (samplesIn s) i (i + 8) (i + 16) (i + 24) p q t u
+      refl (omega arith) (omega arith) refl (omega arith) (omega arith) (omega arith) (omega arith)
 
 -- the rest from i on, of which all up to j is there
 abbrev pub Rest : List ℕ → ℕ → ℕ → List ℤ → List ℤ → Type 0

@@ -1,22 +1,18 @@
 -- What the file of a record holds: its chunks stand as they were laid, each says what was put into it, and together they
 -- get the record's own verdict. Assumes nothing.
-use mathlib.Core.Path.{_≡_, refl, sym, ap, _∙_, subst}
+use mathlib.Core.Path.{_≡_, refl, sym, ap, _∙_}
 use mathlib.Core.Bool.{Bool, true, false, cond, _&&_}
-use mathlib.Core.List.{List, [], _∷_}
-use Prim.Native.Nat.{ℕ, _≤_, _<_}
+use mathlib.Core.List.{List, []}
+use Prim.Native.Nat.{ℕ, _≤_}
 use native.Mathlib.Omega.{arith}
 use lib.Dec.{leb}
 use lib.ListN.{length}
-use borrow.Author.Tests.{leb-true, leb-false}
+use borrow.Author.Tests.{leb-false}
 use Rattle.units.specs.declared.BytePlace.{BytePlace}
-use Rattle.units.specs.declared.Refusal.{Refusal}
 use Rattle.units.specs.declared.Refusal.the-variants.{FormatOrDataMissing}
 use Rattle.units.specs.declared.Verdict.{Verdict}
 use Rattle.units.specs.declared.Verdict.the-variants.{Accepted, Refused}
 use Rattle.riff.specs.declared.Directory.{Directory}
-use Rattle.riff.specs.declared.Walked.{Walked}
-use Rattle.riff.specs.Chunks.{isThere}
-use Rattle.riff.specs.Walk.{partOf, directoryOf}
 use Rattle.riff.specs.Demands.{Reads}
 use Rattle.riff.proofs.Laid.{laid-reads}
 use Rattle.formats.specs.declared.Format.{Format}
@@ -31,7 +27,7 @@ use Rattle.rules.specs.Rules.{recordOf, verdictOf, recordVerdict}
 use Rattle.rules.specs.Written.{recordKept, RecordFits, Carried}
 use Rattle.rules.proofs.Taken.{record-keeps}
 use Rattle.rules.proofs.Back.{verdict-back, record-back}
-use Rattle.reader.specs.Content.{Content, refused, taken, zeros, formatPart, soundPart, soundSize, factPart, cuePart, playlistPart, recordAt, verdictAt, contentAt, contentIn, contentOf}
+use Rattle.reader.specs.Content.{refused, taken, zeros, formatPart, soundPart, factPart, cuePart, playlistPart, recordAt, verdictAt, contentAt, contentIn, contentOf}
 use Rattle.writer.specs.File.{partsOf, fileOf}
 
 -- a table is left out exactly where its bytes are those that are read in its place

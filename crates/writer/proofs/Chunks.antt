@@ -1,28 +1,19 @@
 -- A chunk is put as its head and then its data; the puts are one write of its bytes. Assumes nothing.
-use mathlib.Core.Path.{_≡_, refl, sym, ap, _∙_, subst}
+use mathlib.Core.Path.{_≡_, refl, sym, _∙_}
 use mathlib.Core.Bool.{Bool, true, false, not}
-use mathlib.Core.List.{List, [], _∷_, _++_, append-nil}
+use mathlib.Core.List.{List, [], append-nil}
 use Prim.Native.Nat.{ℕ, _+_, _%_, _≤_, _<_}
 use native.Mathlib.Omega.{arith}
-use lib.Dec.{leb}
 use lib.ListN.{length, set, length-append}
 use borrow.Author.Tests.{lt-leb, le-leb, not-true, not-false}
 use Rattle.little.specs.Writing.{Put}
 use Rattle.little.proofs.Filling.{put-nothing, put-next, put-long, one-store}
 use Rattle.units.specs.declared.Frames.{Frames}
 use Rattle.codes.specs.declared.Code.{Code}
-use Rattle.codes.specs.declared.Code.the-variants as code
-use Rattle.riff.specs.Laying.{Part, headBytes, padBytes, pieceBytes, partBytes, piece, extent, extentIf}
+use Rattle.riff.specs.Laying.{Part, headBytes, padBytes, pieceBytes, partBytes, piece}
 use Rattle.riff.proofs.Laying.{length-head, length-pad, length-piece}
-use Rattle.formats.specs.declared.Format.{Format}
-use Rattle.formats.specs.Frames.{needsFact}
-use Rattle.formats.specs.Bytes.{formatBytes, factBytes}
+use Rattle.formats.specs.Bytes.{factBytes}
 use Rattle.formats.proofs.Lengths.{fact-long}
-use Rattle.tables.specs.declared.Cues.{Cues}
-use Rattle.tables.specs.declared.Playlist.{Playlist}
-use Rattle.tables.specs.Bytes.{cuesBytes, playsBytes}
-use Rattle.writer.specs.File.{factPart, cuesPart, playsPart}
-use Rattle.writer.proofs.Sizes.{length-part}
 
 -- ---- the pad
 module _ (n : ℕ) where

@@ -1,12 +1,12 @@
 -- Demand 2 of written files: each by what the file of a record holds, and by what the verdict on it says. Assumes nothing.
 use mathlib.Core.Path.{_≡_, refl, sym, ap, _∙_, subst}
-use mathlib.Core.Bool.{Bool, true, false, cond}
+use mathlib.Core.Bool.{Bool, true, false}
 use mathlib.Core.List.{List}
 use Prim.Native.Nat.{ℕ, _≤_, _<_}
 use native.Mathlib.Omega.{arith}
 use lib.Dec.{leb}
 use lib.ListN.{length}
-use borrow.Author.Tests.{leb-true, leb-false, le-leb, lt-leb}
+use borrow.Author.Tests.{leb-true, leb-false, le-leb}
 use Rattle.units.specs.declared.BytePlace.{BytePlace}
 use Rattle.units.specs.declared.Refusal.{Refusal}
 use Rattle.units.specs.declared.Refusal.the-variants.{LengthOutOfRange, FormatWrong, FactWrong, OutputTooSmall}
@@ -15,20 +15,18 @@ use Rattle.units.specs.declared.Verdict.the-variants.{Accepted, Refused}
 use Rattle.units.specs.Refusals.{demand}
 use Rattle.riff.specs.declared.Walked.{Walked}
 use Rattle.riff.proofs.Walking.{whole-limit, too-long}
-use Rattle.formats.specs.Frames.{needsFact}
 use Rattle.rules.specs.declared.Record.{Record}
 use Rattle.rules.specs.Rules.{recordVerdict, Writable}
 use Rattle.rules.specs.Written.{recordKept, RecordFits, Carried}
 use Rattle.rules.proofs.Taken.{record-taken}
 use Rattle.rules.proofs.Back.{carried}
 use Rattle.reader.specs.Content.{Content, holds, taken, contentIn, contentOf, readingOf, soundOf, reading, soundIn}
-use Rattle.reader.proofs.Kept.{Held, held, content-taken, content-rules}
-use Rattle.writer.specs.declared.Written.{Written}
+use Rattle.reader.proofs.Kept.{held, content-taken, content-rules}
 use Rattle.writer.specs.declared.Written.the-variants.{Bytes}
 use Rattle.writer.specs.declared.Written.the-variants as written
 use Rattle.writer.specs.File.{fileOf, andThen, writable, settled, answer, writing}
-use Rattle.writer.specs.Demands.{ReadsBack, Back, Rewritten, Again, Carries, SameNumber}
-use Rattle.writer.proofs.Files.{Settled, settled-says}
+use Rattle.writer.specs.Demands.{Back, Again, SameNumber}
+use Rattle.writer.proofs.Settling.{settled-says}
 use Rattle.writer.proofs.Back.{content-back}
 use Rattle.writer.proofs.Room.{not-longer}
 
@@ -71,7 +69,7 @@ back m w room n h e =
     }
 
 -- ---- what is read is written again
-accepted : (m : Record) (w : List ℕ) (room : ℕ) → Writable m (sizeOf w) → length (fileOf m w) ≤ 1073741824 → length (fileOf m w) ≤ room
+pub accepted : (m : Record) (w : List ℕ) (room : ℕ) → Writable m (sizeOf w) → length (fileOf m w) ≤ 1073741824 → length (fileOf m w) ≤ room
     → writing m w room ≡ Bytes (sizeOf (fileOf m w))
 unfolding writing settled writable
 accepted m w room k l r =

@@ -1,13 +1,13 @@
 -- A record that was read is written in no more bytes than the file it was read from: chunk by chunk, as each is written in its
 -- shortest form. Assumes nothing.
-use mathlib.Core.Path.{_≡_, refl, sym, ap, _∙_, subst}
+use mathlib.Core.Path.{_≡_, subst}
 use mathlib.Core.Bool.{Bool, true, false, cond}
 use mathlib.Core.List.{List, []}
-use Prim.Native.Nat.{ℕ, _+_, _%_, _≤_}
+use Prim.Native.Nat.{ℕ, _≤_}
 use native.Mathlib.Omega.{arith}
 use lib.Dec.{leb}
 use lib.ListN.{length}
-use borrow.Author.Tests.{leb-true, leb-false, lt-leb}
+use borrow.Author.Tests.{leb-true}
 use Rattle.little.specs.Numbers.{numberAt, numberIn}
 use Rattle.units.specs.declared.Frames.{Frames}
 use Rattle.units.specs.declared.Verdict.the-variants.{Accepted}
@@ -21,21 +21,19 @@ use Rattle.riff.specs.Laying.{extent, extentIf}
 use Rattle.riff.specs.Demands.{spotExtent}
 use Rattle.riff.proofs.Laying.{length-laid}
 use Rattle.riff.proofs.Tiling.{room-for-all}
-use Rattle.formats.specs.declared.Format.{Format}
 use Rattle.formats.specs.Format.{formatOf}
 use Rattle.formats.specs.Frames.{factForm, needsFact}
-use Rattle.formats.specs.Bytes.{formatBytes, factBytes}
+use Rattle.formats.specs.Bytes.{factBytes}
 use Rattle.formats.proofs.Lengths.{fact-long}
 use Rattle.formats.proofs.Written.{format-shortest}
 use Rattle.tables.specs.Tables.{countIn}
-use Rattle.tables.specs.Cues.{cuesOf, cuesForm}
-use Rattle.tables.specs.Plays.{playsOf, playsForm}
+use Rattle.tables.specs.Cues.{cuesOf}
+use Rattle.tables.specs.Plays.{playsOf}
 use Rattle.tables.specs.Bytes.{cuesBytes, playsBytes}
 use Rattle.tables.proofs.Written.{cues-read-long, plays-read-long}
-use Rattle.rules.specs.declared.Record.{Record}
 use Rattle.rules.specs.Rules.{recordOf}
-use Rattle.reader.specs.Content.{zeros, formatPart, soundPart, factPart, cuePart, playlistPart, recordAt, verdictAt}
-use Rattle.reader.proofs.Kept.{Formed, formed}
+use Rattle.reader.specs.Content.{zeros, formatPart, soundPart, cuePart, playlistPart, recordAt, verdictAt}
+use Rattle.reader.proofs.Kept.{formed}
 use Rattle.writer.specs.File.{partsOf, fileOf}
 
 -- ---- a chunk that stands in the file

@@ -1,10 +1,9 @@
 -- How long a chunk and the file are, in the words of the code. Assumes nothing.
-use mathlib.Core.Path.{_≡_, refl, sym, ap, _∙_}
-use mathlib.Core.Bool.{Bool, true, false, not, cond}
+use mathlib.Core.Path.{_≡_, refl, sym, _∙_}
+use mathlib.Core.Bool.{Bool, true, false, cond}
 use mathlib.Core.List.{List, []}
 use Prim.Native.Nat.{ℕ, _+_, _%_, _≤_, _<_}
 use native.Mathlib.Omega.{arith}
-use lib.Dec.{leb}
 use lib.ListN.{length}
 use borrow.Author.Tests.{lt-leb, le-leb}
 use Rattle.units.specs.declared.Frames.{Frames}
@@ -13,7 +12,7 @@ use Rattle.riff.specs.Laying.{Part, pieceBytes, partBytes, piece, extent, exten
 use Rattle.riff.proofs.Laying.{length-piece, length-laid}
 use Rattle.formats.specs.declared.Format.{Format}
 use Rattle.formats.specs.Frames.{needsFact}
-use Rattle.formats.specs.Bytes.{formatBytes, factBytes}
+use Rattle.formats.specs.Bytes.{formatBytes}
 use Rattle.formats.proofs.Lengths.{fact-long}
 use Rattle.tables.specs.declared.Cues.{Cues}
 use Rattle.tables.specs.declared.Playlist.{Playlist}

@@ -13,7 +13,6 @@ use units::Refusal;
 use units::Verdict;
 ghost use mathlib.Core.Path.{_≡_};
 ghost use mathlib.Core.Bool.{true};
-ghost use mathlib.Core.List.{_++_};
 ghost use Prim.Native.Nat.{_+_, _≤_};
 ghost use lib.ListN.{length};
 ghost use Rattle.codes.specs.declared.Code.the-variants as code;
@@ -21,7 +20,7 @@ ghost use Rattle.little.specs.Writing.{Put, front};
 ghost use Rattle.units.specs.declared.Verdict.the-variants as verdict;
 ghost use Rattle.formats.specs.Format.{formatRule};
 ghost use Rattle.formats.specs.Bytes.{formatBytes};
-ghost use Rattle.riff.specs.Laying.{piece, padBytes, pieceBytes, partBytes, riffBytes, extentIf};
+ghost use Rattle.riff.specs.Laying.{piece, padBytes, pieceBytes, partBytes, extentIf};
 ghost use Rattle.writer.specs.File.{factPart, cuesPart, playsPart, fileOf, opening, tablesOf, settled, writing, holding};
 
 // What writing answers: the number of bytes of the file, or why there is none.

@@ -1,5 +1,5 @@
 -- Three writes behind one another.
-use Rattle.writer.proofs.Files.{openings}
+use Rattle.writer.proofs.Opening.{openings}
 use borrow.Author.Needs.{needs}
 use Rattle.writer.proofs.put_opening.Statement.{statement}
 use Rattle.writer.proofs.put_opening.Tie as tie

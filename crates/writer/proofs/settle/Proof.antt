@@ -1,5 +1,5 @@
 -- The tests in the order of the definition; the sound alone is tested first, so that the sum fits.
-use Rattle.writer.proofs.Files.{settling}
+use Rattle.writer.proofs.Settling.{settling}
 use borrow.Author.Needs.{needs}
 use Rattle.writer.proofs.settle.Statement.{statement}
 use Rattle.writer.proofs.settle.Tie as tie

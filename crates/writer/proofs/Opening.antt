@@ -1,0 +1,55 @@
+-- What stands before the tables is put as three writes behind one another. Assumes nothing.
+use mathlib.Core.Path.{_≡_, ap, _∙_}
+use mathlib.Core.List.{List, _++_}
+use Prim.Native.Nat.{ℕ, _+_, _-_, _≤_}
+use native.Mathlib.Omega.{arith}
+use lib.ListN.{length, length-append}
+use Rattle.little.specs.Writing.{Put}
+use Rattle.little.proofs.Filling.{put-long, put-next, next-room, both-put, first-room}
+use Rattle.units.specs.declared.Frames.{Frames}
+use Rattle.codes.specs.declared.Code.the-variants as code
+use Rattle.riff.specs.Laying.{piece, pieceBytes, partBytes, riffBytes}
+use Rattle.riff.proofs.Laying.{length-riff}
+use Rattle.formats.specs.declared.Format.{Format}
+use Rattle.formats.specs.Bytes.{formatBytes}
+use Rattle.writer.specs.File.{factPart, opening}
+
+abbrev pub formOf : Format → List ℕ
+formOf f = pieceBytes (piece code.Format (formatBytes f))
+
+abbrev pub countOf : Format → Frames → List ℕ
+countOf f frames = partBytes code.Fact (factPart f frames)
+
+module _ (size : ℕ) (f : Format) (frames : Frames) where
+  abbrev form : List ℕ
+  form = formOf f
+
+  abbrev count : List ℕ
+  count = countOf f frames
+
+  length-opening : length (opening size f frames) ≡ 12 + length (form ++ count)
+  unfolding opening
+  length-opening = length-append (riffBytes size) (form ++ count) ∙ ap (λ (k : ℕ). k + length (form ++ count)) (length-riff size)
+
+  pub riff-room : {m : ℕ} → length (opening size f frames) ≤ m → 12 ≤ m
+  riff-room h = omega (arith, length-opening)
+
+  pub opening-end : {next end : ℕ} → next ≡ 12 + length form → end ≡ next + length count → end ≡ length (opening size f frames)
+  opening-end a b = omega (arith, length-opening, length-append form count)
+
+  module _ {d e : List ℕ} (h : length (opening size f frames) ≤ length d) (p : Put d 0 (riffBytes size) e) where
+    long : 12 + length (form ++ count) ≤ length e
+    long = let l = put-long p (omega (arith, length-riff size, length-opening)) in omega (arith, length-opening)
+
+    pub format-room : 12 + length form ≤ length e
+    format-room = first-room form count 12 long
+
+    module _ {g : List ℕ} {next : ℕ} (q : Put e 12 form g) (a : next ≡ 12 + length form) where
+      pub fact-room : next + length count ≤ length g
+      fact-room = next-room form count long q a
+
+      pub opening-put : {z : List ℕ} → Put g next count z → Put d 0 (opening size f frames) z
+      unfolding opening
+      opening-put r = put-next p (both-put form count long q a r) (omega (arith, length-riff size)) (omega (arith, length-opening))
+
+pub ruleset openings = (riff-room, opening-end, format-room, fact-room, opening-put)

@@ -1,0 +1,89 @@
+-- The verdict on writing, in the words of the code; and what it says where the file is written. Assumes nothing.
+use mathlib.Core.Path.{_≡_, refl, sym, ap, _∙_, subst}
+use mathlib.Core.Bool.{true, false}
+use mathlib.Core.List.{List}
+use Prim.Native.Nat.{ℕ, _-_, _≤_, _<_}
+use native.Mathlib.Omega.{arith}
+use lib.Dec.{T, leb, leb→le}
+use lib.ListN.{length}
+use borrow.Author.Tests.{lt-leb, le-leb}
+use Rattle.units.specs.declared.BytePlace.{BytePlace}
+use Rattle.units.specs.declared.Refusal.{Refusal}
+use Rattle.units.specs.declared.Refusal.the-variants.{LengthOutOfRange, OutputTooSmall}
+use Rattle.units.specs.declared.Verdict.{Verdict}
+use Rattle.units.specs.declared.Verdict.the-variants.{Accepted, Refused}
+use Rattle.units.specs.Refusals.{demand}
+use Rattle.units.proofs.Laws.{demand-met}
+use Rattle.riff.proofs.Laying.{length-laid}
+use Rattle.rules.specs.declared.Record.{Record}
+use Rattle.rules.specs.Rules.{recordVerdict, Writable}
+use Rattle.rules.proofs.Taken.{record-keeps}
+use Rattle.writer.specs.File.{partsOf, fileOf, andThen, writable, settled}
+
+and-met : (u v : Verdict) → andThen u v ≡ Accepted → (u ≡ Accepted) × (v ≡ Accepted)
+and-met Accepted v e = (refl, e)
+and-met (Refused r) v e = let z : _≡_ {A = ℕ} 0 1 = cc in absurd (omega arith)
+
+module _ (m : Record) (w : List ℕ) (room : ℕ) where
+  abbrev n : BytePlace
+  n = record { 0 = length w }
+
+  abbrev file : ℕ
+  file = length (fileOf m w)
+
+  abbrev limited : Verdict
+  limited = demand (leb file 1073741824) LengthOutOfRange Accepted
+
+  abbrev roomed : Verdict
+  roomed = demand (leb file room) OutputTooSmall Accepted
+
+  settled-by : {v u : Verdict} → v ≡ recordVerdict m n → v ≡ u → settled m w room ≡ andThen (andThen u limited) roomed
+  unfolding settled writable
+  settled-by e f = ap (λ (x : Verdict). andThen (andThen x limited) roomed) (sym e ∙ f)
+
+  pub longer : length w ≤ file
+  unfolding fileOf partsOf
+  longer = omega (arith, length-laid (partsOf m w))
+
+  module _ {v : Verdict} (e : v ≡ recordVerdict m n) where
+    pub settle-ruled : {r : Refusal} → v ≡ Refused r → v ≡ settled m w room
+    settle-ruled f = f ∙ sym (settled-by e f)
+
+    module _ (f : v ≡ Accepted) where
+      pub settle-long : 1073741824 < length w → Refused LengthOutOfRange ≡ settled m w room
+      settle-long h = let l : leb file 1073741824 ≡ false = lt-leb file 1073741824 (omega (arith, longer)) in sym (settled-by e f ∙ simp l)
+
+      module _ {size : ℕ} (g : size ≡ file) where
+        pub settle-limit : 1073741824 < size → Refused LengthOutOfRange ≡ settled m w room
+        settle-limit h = let l : leb file 1073741824 ≡ false = lt-leb file 1073741824 (omega arith) in sym (settled-by e f ∙ simp l)
+
+        module _ (h : size ≤ 1073741824) where
+          l : leb file 1073741824 ≡ true
+          l = le-leb file 1073741824 (omega arith)
+
+          pub settle-room : room < size → Refused OutputTooSmall ≡ settled m w room
+          settle-room i = let j : leb file room ≡ false = lt-leb file room (omega arith) in sym (settled-by e f ∙ simp (l, j))
+
+          pub settle-taken : size ≤ room → Accepted ≡ settled m w room
+          settle-taken i = let j : leb file room ≡ true = le-leb file room (omega arith) in sym (settled-by e f ∙ simp (l, j))
+
+pub ruleset settling = (settle-ruled, settle-long, settle-limit, settle-room, settle-taken)
+
+-- ---- what it says where the file is written
+pub record Settled (m : Record) (w : List ℕ) (room : ℕ) : Type 0 where
+  pub rules : Writable m (record { 0 = length w })
+  pub limit : length (fileOf m w) ≤ 1073741824
+  pub fits : length (fileOf m w) ≤ room
+
+pub settled-says : (m : Record) (w : List ℕ) (room : ℕ) → settled m w room ≡ Accepted → Settled m w room
+unfolding settled writable
+settled-says m w room e =
+    let p = and-met (writable m w) (roomed m w room) e in
+    let q = and-met (recordVerdict m (n m w room)) (limited m w room) (p .0) in
+    let r = demand-met (leb (length (fileOf m w)) 1073741824) LengthOutOfRange Accepted (q .1) in
+    let s = demand-met (leb (length (fileOf m w)) room) OutputTooSmall Accepted (p .1) in
+    record {
+      rules = record-keeps m (record { 0 = length w }) (q .0);
+      limit = leb→le (length (fileOf m w)) 1073741824 (subst T (sym (r .0)) tt);
+      fits = leb→le (length (fileOf m w)) room (subst T (sym (s .0)) tt);
+    }
