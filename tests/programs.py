@@ -2,7 +2,7 @@
 """Runs the programs, as `rt` has built them, on input that their stored test does not have.
 
     tests/programs.py [COUNT [SEED]]       after `rt check` or `rt ci`; COUNT generated files are read,
-                                           and a tenth as many sounds coded and files decoded
+                                           and a tenth as many sounds coded, files decoded and records written
 """
 import os
 import pathlib
@@ -16,6 +16,7 @@ import many_files
 import second_reader
 import sound_files
 import wave_files
+import writer_records
 
 ROOT = pathlib.Path(__file__).resolve().parent.parent
 KIT = pathlib.Path(os.environ.get('RATTLE_HOME') or pathlib.Path(shutil.which('rt')).resolve().parent.parent)
@@ -82,7 +83,7 @@ def batches(vectors):
 
 
 def unlike(name, vectors):
-    """The lines on which a program and the second reader, coder or decoder differ."""
+    """The lines on which a program and the second reader, coder, decoder or writer differ."""
     for data, lines in batches(vectors):
         wrote = run(name, input=data).splitlines()
         yield from (pair for pair in zip(wrote, lines) if pair[0] != pair[1])
@@ -94,7 +95,8 @@ def main(count=20000, seed=1):
     count, seed = int(count), int(seed)
     wrong = [f'wave_list on {label} wrote {wrote!r}' for label, wrote, expected in listings() if wrote != expected]
     generated = {'reader_vectors': read_files(count, seed), 'ima_vectors': ima_sounds.many(count // 10, seed),
-                 'sound_vectors': sound_files.many(count // 10, seed)}
+                 'sound_vectors': sound_files.many(count // 10, seed),
+                 'writer_vectors': writer_records.many(count // 10, seed)}
     wrong += [f'{name} wrote {wrote!r}, in Python it is {expected!r}'
               for name, vectors in generated.items() for wrote, expected in unlike(name, vectors)]
     for line in wrong[:20]:

@@ -17,6 +17,8 @@ import second_reader
 import second_sound
 import sound_files
 import wave_files
+import writer_records
+import written_files
 from second_reader import mixed
 
 CRATES = pathlib.Path(__file__).resolve().parent.parent / 'crates'
@@ -129,6 +131,11 @@ def sound():
     return joined(sound_files.all_vectors())
 
 
+def writer():
+    """The records of tests/writer_records.py."""
+    return joined(writer_records.all_vectors())
+
+
 def ima_other():
     """libsndfile's blocks of each sound; the chased samples by the second coder."""
     names, lines = [], []
@@ -175,14 +182,21 @@ def sound_other():
     return b'', '\n'.join(lines) + '\n', names
 
 
+def written_other():
+    """The files of tests/written_files.py, which must come out as they stand."""
+    files = list(written_files.expected())
+    return b'', ''.join(f'{line}\n' for name, lines in files for line in (name, *lines)), [name for name, _ in files]
+
+
 def programs():
     """For each program its standard input, its arguments and what it must print."""
-    made = {f'{make.__name__}_vectors': (*make(), None) for make in (units, little, samples, reader, ima, sound)}
+    made = {f'{make.__name__}_vectors': (*make(), None) for make in (units, little, samples, reader, ima, sound, writer)}
     made['wave_list'] = wave_files.example(), '\n'.join(wave_files.EXAMPLE) + '\n', None
     others = list(other_programs.expected())
     made['other_programs'] = b'', ''.join(f'{name}\n{text}' for name, text in others), [name for name, _ in others]
     made['ima_other'] = ima_other()
     made['sound_other'] = sound_other()
+    made['written_other'] = written_other()
     return made
 
 

@@ -9,42 +9,43 @@ use native.Mathlib.Omega.{arith}
 use lib.IntN.{ℤ, pos}
 use lib.ListN.{length, getD}
 use Rattle.lists.proofs.Laws.{every-all}
-use Rattle.units.specs.declared.Verdict.{Verdict}
-use Rattle.units.specs.declared.Verdict.the-variants as verdict
+use Rattle.units.specs.declared.Frames.{Frames}
 use Rattle.formats.specs.declared.Format.{Format}
 use Rattle.formats.specs.Frames.{Sounding}
-use Rattle.reader.specs.Content.{Content}
+use Rattle.rules.specs.declared.Record.{Record}
+use Rattle.reader.specs.Content.{Content, holds}
 use Rattle.reader.proofs.Kept.{content-kept}
 use Rattle.steps.specs.Quality.{Faithful}
 use Rattle.blocks.specs.Block.{samplesPerBlock, framesIn, headersFine}
 use Rattle.ima.specs.declared.Written.{Written}
 use Rattle.ima.specs.declared.Encoded.the-variants.{Blocks}
 use Rattle.ima.specs.Encoding.{blocksFor, encodedBytes, encodeVerdict}
-use Rattle.ima.specs.Answer.{writtenOf, answer, encoding}
+use Rattle.ima.specs.Answer.{encoding}
 use Rattle.ima.specs.Demands.{frameOf, blockIn, heardAt, Heard, Quality}
 use Rattle.ima.proofs.Settling.{Codable}
 use Rattle.ima.proofs.Answers.{Settled, settled-says}
 use Rattle.ima.proofs.Blocks.{per-some, begun}
 use Rattle.ima.proofs.Frames.{block-among}
-use Rattle.ima.proofs.Demands.{quality}
+use Rattle.ima.proofs.Demands.{accepted, quality}
+use Rattle.writer.specs.File.{fileOf}
+use Rattle.writer.proofs.Files.{sound-limit}
+use Rattle.writer.proofs.Settling as settling
+use Rattle.writer.proofs.Demands.{bytes-say, content-written}
+use Rattle.writer.proofs.Demands as written
 use Rattle.decoder.specs.Sound.{channelSound, blockFrames, blockFine, blockCount, blockAt, blockSound, wholeSound, dataFine}
-use Rattle.decoder.proofs.Whole.{whole-long}
+use Rattle.decoder.proofs.Whole.{whole-long, frame-of-whole}
 use Rattle.sound.specs.Decoding.{wholeAnswer, decoding, wholeIn, fileSound}
 use Rattle.sound.proofs.Checks.{whole-fine}
 use Rattle.approval.specs.Approval.{samplesOf, approvalFormat, approvalRecord}
-use Rattle.approval.specs.Demands.{Approved}
-use Rattle.approval.proofs.Rules.{samples-per, blocks-are}
-use Rattle.approval.proofs.Frames.{frame-of-whole}
+use Rattle.approval.specs.Demands.{recordFor, RulesHold, Approved, WholeWay, Sent}
+use Rattle.approval.proofs.Rules.{samples-per, codable-is, blocks-are, rules-hold}
+use Rattle.approval.proofs.Sending.{kept-same, record-fits, file-below}
 
--- ---- an answer that is blocks
-accepted : (v : Verdict) (u w : Written) → answer v u ≡ Blocks w → v ≡ verdict.Accepted
-accepted verdict.Accepted u w e = refl
-accepted (verdict.Refused r) u w e = let z : _≡_ {A = ℕ} 0 1 = cc in absurd (omega arith)
-
+-- ---- what an answer that is blocks says
 encoded-says : (s : List ℤ) (c a room : ℕ) (w : Written) → encoding s c a room ≡ Blocks w → Settled (length s) c a room
 unfolding encoding
 encoded-says s c a room w e =
-    settled-says (length s) c a room (accepted (encodeVerdict (length s) c a room) (writtenOf c a s) w e)
+    settled-says (length s) c a room (accepted (encodeVerdict (length s) c a room) e .0)
 
 -- ---- a block of the copy is an IMA block
 module _ (c rate a : ℕ) where
@@ -137,3 +138,25 @@ approved s c rate a room most w file z e held enough =
       succession = q .succession;
       quality = q;
     }
+
+-- ---- the whole way
+pub whole-way : WholeWay
+unfolding WholeWay Approved
+whole-way s c rate a room size most told n z e put enough =
+    let m = recordFor s c rate a in
+    let w : List ℕ = encodedBytes c a s in
+    let frames : Frames = record { 0 = length s / c } in
+    let v = bytes-say m w size n put in
+    let k = settling.settled-says m w size v in
+    let fits = record-fits c rate a frames (k .rules) (sound-limit m w size v) in
+    let held = content-written m w size n fits put ∙ ap (λ (x : Record). holds x w) (kept-same c rate a frames) in
+    approved s c rate a room most told (fileOf m w) z e held enough
+
+pub sent : Sent
+unfolding Sent RulesHold
+sent s c rate a room size told e h g fits =
+    let t : Settled (length s) c a room = encoded-says s c a room told e in
+    let m = recordFor s c rate a in
+    let w : List ℕ = encodedBytes c a s in
+    written.accepted m w size (rules-hold s c rate a (codable-is (t .fine)) h g)
+    (file-below s c rate a (t .fine) (t .small)) fits

@@ -1,4 +1,4 @@
 pub mod Laws
 pub mod Rules
-pub mod Frames
+pub mod Sending
 pub mod Demands

@@ -8,11 +8,10 @@ use native.Mathlib.Nat.{mul-div-cancel, mul-mod-left, zero-mul}
 use native.Mathlib.Omega.{arith}
 use lib.IntN.{ℤ}
 use lib.ListN.{length}
-use borrow.Author.Tests.{eq-eqb, ne-eqb}
+use borrow.Author.Tests.{le-leb, eq-eqb, ne-eqb}
 use Rattle.little.proofs.Tests.{tests}
 use Rattle.lists.specs.Among.{distinct}
 use Rattle.lists.specs.Every.{every, allBelow}
-use Rattle.lists.proofs.Turns.{joined-long}
 use Rattle.units.specs.declared.BytePlace.{BytePlace}
 use Rattle.units.specs.declared.Frames.{Frames}
 use Rattle.formats.specs.Format.{shared, blocked, imaRule, formatRule}
@@ -23,19 +22,23 @@ use Rattle.tables.specs.Tables.{held}
 use Rattle.tables.specs.Cues.{namesIn, placesIn, cuesRule}
 use Rattle.tables.specs.Plays.{allPlayable, playsRule}
 use Rattle.blocks.specs.Block.{samplesPerBlock}
-use Rattle.ima.specs.Encoding.{blockBytes, blocksFor, encodedBytes}
-use Rattle.ima.proofs.Settling.{Codable, codable-says}
+use Rattle.ima.specs.Encoding.{codable, blocksFor, encodedBytes}
+use Rattle.ima.proofs.Settling.{Codable, codable-says, codable-long}
+use Rattle.ima.proofs.Answers.{length-encoded}
 use Rattle.ima.proofs.Blocks.{per-some}
 use Rattle.ima.proofs.Frames.{blocks-enough}
 use Rattle.ima.proofs.Heard.{length-bytes-of}
 use Rattle.approval.specs.Approval.{samplesOf, approvalFormat, approvalRecord}
 use Rattle.approval.specs.Demands.{RulesHold, RuleBroken}
-use Rattle.approval.proofs.Laws.{samples-zero, samples-are}
+use Rattle.approval.proofs.Laws.{samples-none, samples-are}
 
 module _ {c a : ℕ} (w : Codable c a) where
+  pub codable-is : codable c a ≡ true
+  codable-is = sym (codable-long c a (w .some) (w .two) (w .whole) (w .least)) ∙ le-leb a 4096 (w .most)
+
   pub samples-per : samplesOf c a ≡ samplesPerBlock c a
   unfolding samplesPerBlock
-  samples-per = sym (samples-are c a (w .some) (w .two) (w .whole) (w .least) (w .most))
+  samples-per = sym (samples-are c a refl codable-is)
 
   -- ---- 9
   format-kept : (rate : ℕ) → 1 ≤ rate → rate ≤ 192000 → formatRule (approvalFormat c rate a) ≡ true
@@ -57,9 +60,8 @@ module _ {c a : ℕ} (w : Codable c a) where
     abbrev size : BytePlace
     size = record { 0 = length (encodedBytes c a s) }
 
-    encoded-long : length (encodedBytes c a s) ≡ blocks * a
-    unfolding encodedBytes
-    encoded-long = joined-long (blockBytes c a s) a 0 blocks (length-bytes-of w s)
+    pub sound-long : length (encodedBytes c a s) ≡ blocks * a
+    sound-long = length-encoded c a s (length-bytes-of w s)
 
     some-align : 1 ≤ a
     some-align = omega (arith, w .some, w .least)
@@ -68,12 +70,12 @@ module _ {c a : ℕ} (w : Codable c a) where
     unfolding wholeBlocks approvalFormat
     whole-kept rate =
         let h = some-align in
-        let e : length (encodedBytes c a s) % a ≡ 0 = ap (λ (n : ℕ). n % a) encoded-long ∙ mul-mod-left blocks a in
+        let e : length (encodedBytes c a s) % a ≡ 0 = ap (λ (n : ℕ). n % a) sound-long ∙ mul-mod-left blocks a in
         simp tests
 
     pub blocks-are : (rate : ℕ) → blocks ≡ blocksIn (approvalFormat c rate a) size
     unfolding blocksIn approvalFormat
-    blocks-are rate = sym (ap (λ (n : ℕ). n / a) encoded-long ∙ mul-div-cancel blocks some-align)
+    blocks-are rate = sym (ap (λ (n : ℕ). n / a) sound-long ∙ mul-div-cancel blocks some-align)
 
     count-fits : true ≡ countFits blocks (samplesPerBlock c a) (length s / c)
     unfolding blocksFor
@@ -125,5 +127,5 @@ and-none false = refl
 pub rule-broken : RuleBroken
 unfolding RuleBroken formatRule imaRule approvalRecord approvalFormat
 rule-broken s c rate a e =
-    let n : samplesOf c a ≡ (a - 4 * c) * 2 / c + 1 → ⊥ = λ t. omega (arith, samples-zero c a (sym e)) in
+    let n : samplesOf c a ≡ (a - 4 * c) * 2 / c + 1 → ⊥ = λ t. omega (arith, samples-none c a (sym e) refl) in
     simp (ne-eqb, and-none)

@@ -8,10 +8,8 @@ use lib.IntN.{ℤ}
 use lib.ListN.{length}
 use Rattle.units.specs.declared.BytePlace.{BytePlace}
 use Rattle.formats.specs.Format.{formatRule}
-use Rattle.formats.specs.Frames.{wholeBlocks, framesRule}
-use Rattle.tables.specs.Cues.{cuesRule}
-use Rattle.tables.specs.Plays.{playsRule}
 use Rattle.rules.specs.declared.Record.{Record}
+use Rattle.rules.specs.Rules.{Writable}
 use Rattle.reader.specs.Content.{holds, contentOf}
 use Rattle.steps.specs.Quality.{Sixteen, Faithful, atMost}
 use Rattle.blocks.specs.Block.{samplesPerBlock}
@@ -22,21 +20,15 @@ use Rattle.ima.specs.Answer.{encoding}
 use Rattle.ima.specs.Demands.{frameOf, heardAt, chasedFrames, Heard}
 use Rattle.sound.specs.declared.Decoded.the-variants.{Frames}
 use Rattle.sound.specs.Decoding.{decoding, fileSound}
+use Rattle.writer.specs.declared.Written.the-variants.{Bytes}
+use Rattle.writer.specs.File.{fileOf, writing}
 use Rattle.approval.specs.Approval.{approvalRecord}
 
 -- the record of the approval copy of a sound s
 abbrev pub recordFor : List ℤ → ℕ → ℕ → ℕ → Record
 recordFor s c rate a = approvalRecord c rate a (record { 0 = length s / c })
 
--- ---- what writing asks of a record m with n bytes of sound: 9 to 13
-pub record Writable (m : Record) (n : BytePlace) : Type 0 where
-  pub format : formatRule (m .format) ≡ true
-  pub whole : wholeBlocks (m .format) n ≡ true
-  pub count : framesRule (m .format) n (m .frames) ≡ true
-  pub cues : cuesRule (m .cues) (m .frames) ≡ true
-  pub plays : playsRule (m .playlist) (m .cues) (m .frames) ≡ true
-
--- the record of every copy keeps the rules, with the blocks of its sound
+-- ---- the record of every copy keeps the rules of writing, 9 to 13, with the blocks of its sound
 unfoldable pub RulesHold : Type 0
 RulesHold =
     (s : List ℤ) (c rate a : ℕ) → codable c a ≡ true → 1 ≤ rate → rate ≤ 192000
@@ -73,3 +65,22 @@ Approved =
     (s : List ℤ) (c rate a room most : ℕ) (w : Written) (file : List ℕ) → Sixteen s → encoding s c a room ≡ Blocks w
     → contentOf file ≡ holds (recordFor s c rate a) (encodedBytes c a s)
     → length s ≤ most → Copy s c a w file most
+
+-- ---- the whole way: a sound of 16-bit samples is encoded as IMA blocks, the blocks are written as a file under the record of
+-- the copy, and that file is decoded: F frames come back, and demand 3 holds of them
+unfoldable pub WholeWay : Type 0
+WholeWay =
+    (s : List ℤ) (c rate a room size most : ℕ) (told : Written) (n : BytePlace) → Sixteen s
+    → encoding s c a room ≡ Blocks told
+    → writing (recordFor s c rate a) (encodedBytes c a s) size ≡ Bytes n
+    → length s ≤ most
+    → Copy s c a told (fileOf (recordFor s c rate a) (encodedBytes c a s)) most
+
+-- and writing takes the blocks of every sound that encoding accepts, at a rate from 1 to 192,000, where there is room for the
+-- file: the file is never above the limit
+unfoldable pub Sent : Type 0
+Sent =
+    (s : List ℤ) (c rate a room size : ℕ) (told : Written) → encoding s c a room ≡ Blocks told → 1 ≤ rate → rate ≤ 192000
+    → length (fileOf (recordFor s c rate a) (encodedBytes c a s)) ≤ size
+    → writing (recordFor s c rate a) (encodedBytes c a s) size
+    ≡ Bytes (record { 0 = length (fileOf (recordFor s c rate a) (encodedBytes c a s)) })

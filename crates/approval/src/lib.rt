@@ -13,19 +13,8 @@ ghost use Rattle.approval.specs.Approval.{samplesOf, approvalRecord};
 fn samples_of(channels: u16, align: u16) -> u16
     ensures { λ r. ⌜ r ≡ samplesOf channels align ⌝ }
 {
-    if channels < 1 {
-        return 0;
-    }
-    if 2 < channels {
-        return 0;
-    }
-    if align % (4 * channels) != 0 {
-        return 0;
-    }
-    if align < 8 * channels {
-        return 0;
-    }
-    if 4096 < align {
+    let fine = ima::is_codable(channels as usize, align as usize);
+    if !fine {
         return 0;
     }
     (align - 4 * channels) * 2 / channels + 1

@@ -1,7 +1,7 @@
 -- The bytes of `fmt ` for each tag, and how long they are; and those of `fact`. Assumes nothing.
 use mathlib.Core.Path.{_≡_, refl, sym, ap, subst}
 use mathlib.Core.List.{[], _++_}
-use Prim.Native.Nat.{ℕ, _%_}
+use Prim.Native.Nat.{ℕ}
 use lib.ListN.{length}
 use Rattle.little.specs.Numbers.{bytesOf}
 use Rattle.little.proofs.Reading.{length-bytes}
@@ -66,9 +66,6 @@ module _ (f : Format) where
       (λ n. by-eqb (f .tag) 17 (λ _. P (length (formatBytes f))) (λ t. subst P (format-ima-long n t) b)
       (λ m. by-eqb (f .tag) 2 (λ _. P (length (formatBytes f))) (λ t. subst P (format-microsoft-long n m t) c)
       (λ t. subst P (format-other-long n m t) a)))
-
-  pub format-long : length (formatBytes f) % 2 ≡ 0
-  format-long = by-length (λ n. n % 2 ≡ 0) refl refl refl
 
 pub length-coefficients : length coefficientBytes ≡ 30
 unfolding coefficientBytes pairsBytes bytesOf

@@ -109,7 +109,7 @@ module _ (n c a room : ℕ) (e : encodeVerdict n c a room ≡ Accepted) where
     two-fits g = subst (λ (k : ℕ). k * a ≤ room) (sym g) (said .fits)
 
 -- ---- what was written
-length-encoded : (c a : ℕ) (s : List ℤ) → ((k : ℕ) → length (blockBytes c a s k) ≡ a)
+pub length-encoded : (c a : ℕ) (s : List ℤ) → ((k : ℕ) → length (blockBytes c a s k) ≡ a)
     → length (encodedBytes c a s) ≡ blocksFor c a (length s) * a
 unfolding encodedBytes
 length-encoded c a s l = joined-long (blockBytes c a s) a 0 (blocksFor c a (length s)) l

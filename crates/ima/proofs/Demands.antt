@@ -261,7 +261,7 @@ abbrev within-answer : Written → Encoded → Written
 within-answer d (Blocks w) = w
 within-answer d (Refused r) = d
 
-accepted : (v : Verdict) {u w : Written} → answer v u ≡ Blocks w → (v ≡ Accepted) × (u ≡ w)
+pub accepted : (v : Verdict) {u w : Written} → answer v u ≡ Blocks w → (v ≡ Accepted) × (u ≡ w)
 accepted Accepted {u} e = (refl, ap (within-answer u) e)
 accepted (Verdict.Refused r) e = let z : _≡_ {A = ℕ} 0 1 = cc in absurd (omega arith)
 

@@ -73,7 +73,7 @@ part-heard i g (x ∷ xs) s e =
     rw (o, n) (ap (λ (l : List State). t ∷ l) (run-tracks t xs))
 
 -- ---- one or two channels
-by-channels : {c a : ℕ} (P : ℕ → Type 0) → Codable c a → (c ≡ 1 → P 1) → (c ≡ 2 → P 2) → P c
+pub by-channels : {c a : ℕ} (P : ℕ → Type 0) → Codable c a → (c ≡ 1 → P 1) → (c ≡ 2 → P 2) → P c
 by-channels {c} P w f g = pick c (w .some) (w .two) f g
   where
     pick : (c : ℕ) → 1 ≤ c → c ≤ 2 → (c ≡ 1 → P 1) → (c ≡ 2 → P 2) → P c

@@ -86,7 +86,7 @@ fn stereo_blocks(sound: &[i16], align: usize, n: usize, out: &mut [u8]) -> Chann
 }
 
 // Whether IMA has blocks of so many channels and this align.
-fn is_codable(channels: usize, align: usize) -> bool
+pub fn is_codable(channels: usize, align: usize) -> bool
     ensures { λ r. ⌜ r ≡ codable channels align ⌝ }
 {
     if channels < 1 {

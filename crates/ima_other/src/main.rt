@@ -8,23 +8,12 @@ use ima::Written;
 use riff::Directory;
 use riff::Walked;
 
-// How many bytes there are, and a number mixed of them.
-fn bytes_line(name: &[u8], bytes: &[u8]) {
-    show::word(name);
-    show::word(b" bytes ");
-    show::number(bytes.len() as u64);
-    show::word(b" mixed ");
-    show::number(show::mixed_bytes(bytes));
-    show::line();
-}
-
 // What coding wrote to a lent buffer, and the chased samples.
 fn written_lines(written: Written, out: &[u8]) {
-    bytes_line(b"coded", riff::bytes_from(out, 0, written.bytes.0));
-    show::word(b"chased left ");
-    show::number(written.left.0 as u64);
-    show::word(b" right ");
-    show::number(written.right.0 as u64);
+    show::word(b"coded ");
+    show::mixed_line(riff::bytes_from(out, 0, written.bytes.0));
+    show::field(b"chased left ", written.left.0 as u64);
+    show::field(b" right ", written.right.0 as u64);
     show::line();
 }
 
@@ -58,44 +47,22 @@ fn encode_as(file: &[u8], places: Directory, raw: &[u8]) {
     encode_raw(raw, format.channels, format.align);
 }
 
-// Reads the file of a name to a lent buffer, and answers how much of it there is.
-fn read_file(name: &[u8], out: &mut [u8]) -> usize {
-    let file = os::open_read(name);
-    if file < 0 {
-        os::fail(name);
-        return 0;
-    }
-    let n = io::read_full(file, out);
-    libc::close(file);
-    n
-}
-
-// Works on the file and the sound of two names.
-fn pair(wave: &[u8], raw: &[u8]) {
-    show::word(wave);
-    show::line();
+// Works on the file and the sound that two arguments name.
+fn pair(wave: usize, raw: usize) {
+    arguments::print(wave);
     let mut file = [0u8; 65536];
-    let n = read_file(wave, &mut file);
+    let n = arguments::read(wave, &mut file);
     let bytes = riff::bytes_from(&file, 0, n);
     let mut sound = [0u8; 65536];
-    let m = read_file(raw, &mut sound);
+    let m = arguments::read(raw, &mut sound);
     match riff::chunks(bytes) {
         Walked::Whole(places) => encode_as(bytes, places, riff::bytes_from(&sound, 0, m)),
         Walked::Stopped(refusal) => listing::refused(refusal),
     }
 }
 
-// Works on the files of two arguments.
-fn arguments(i: usize, j: usize) {
-    let mut wave = io::buffer();
-    let n = os::arg(i, &mut wave);
-    let mut raw = io::buffer();
-    let m = os::arg(j, &mut raw);
-    pair(&wave[..n], &raw[..m]);
-}
-
 fn main() {
     for i in 0..os::arg_count() / 2 {
-        arguments(2 * i + 1, 2 * i + 2);
+        pair(2 * i + 1, 2 * i + 2);
     }
 }

@@ -7,7 +7,7 @@
 use ima::Encoded;
 use ima::Written;
 use libc::STDIN_FILENO;
-ghost use Prim.Native.Nat.{_≤_, _<_};
+ghost use Prim.Native.Nat.{_-_, _≤_};
 ghost use lib.ListN.{length};
 
 // What coding gave.
@@ -58,36 +58,25 @@ fn encode_in(data: &[u8], channels: u16, align: u16, room: usize) {
     encode(data, channels, align, &mut sound[..n], &mut out[..room]);
 }
 
-// Works on the entry at a place, and answers how long it is.
-fn entry(input: &[u8], at: usize) -> usize
-    requires { ⌜ at < 65536 ⌝ }
-    ensures { λ r. ⌜ (1 ≤ r) × (r ≤ 131080) ⌝ }
+// Works on the first entry of a table, and hands out those that follow.
+fn entry(table: &[u8]) -> &[u8]
+    ensures { λ r. ⌜ length (now r) ≤ length (now (table .entry)) - 1 ⌝ }
 {
-    let label = little::u16_or_zero(input, at) as usize;
-    let channels = little::u16_or_zero(input, at + 2);
-    let align = little::u16_or_zero(input, at + 4);
-    let room = little::u16_or_zero(input, at + 6) as usize;
-    let size = little::u16_or_zero(input, at + 8) as usize;
-    show::word(riff::bytes_from(input, at + 10, label));
-    show::line();
-    let data = riff::bytes_from(input, at + 10 + label, size);
-    encode_in(data, channels, align, room);
-    10 + label + size
-}
-
-// Works on every entry of the input.
-fn entries(input: &[u8])
-    requires { ⌜ length (now input) ≤ 65536 ⌝ }
-{
-    let mut at = 0;
-    while at < input.len() {
-        let size = entry(input, at);
-        at += size;
-    }
+    let channels = little::u16_or_zero(table, 2);
+    let align = little::u16_or_zero(table, 4);
+    let room = little::u16_or_zero(table, 6) as usize;
+    let size = little::u16_or_zero(table, 8) as usize;
+    let rest = entries::labelled(table, 10);
+    encode_in(riff::bytes_from(rest, 0, size), channels, align, room);
+    entries::past(rest, size)
 }
 
 fn main() {
     let mut buffer = [0u8; 65536];
     let n = io::read_full(STDIN_FILENO, &mut buffer);
-    entries(&buffer[..n]);
+    let mut table = &buffer[..n];
+    while 0 < table.len() {
+        let rest = entry(table);
+        table = rest;
+    }
 }

@@ -6,7 +6,7 @@ use native.Mathlib.Nat.{zero-add, add-zero}
 use native.Mathlib.Numerals.{add-one, add-two, add-three}
 use native.Mathlib.Omega.{arith}
 use lib.ListN.{length, take, drop, getD, set, length-append, length-drop, take-append-drop, drop-of-length-le}
-use lib.Seq.{take-add, take-all, take-at, take-take, take-append-add, take-append-le, take-append-seam, drop-at, drop-drop, length-take-le, drop-cons, sets-eq, getD-take, getD-drop}
+use lib.Seq.{take-add, take-all, take-at, take-take, take-append-add, take-append-le, drop-at, drop-drop, length-take-le, drop-cons, sets-eq}
 use Rattle.little.specs.Writing.{writeAt, front, Put}
 
 -- d₀ is to become p, and then what d₀ has past it. In d that is done up to index at, and rest is left to write
@@ -32,15 +32,6 @@ module _ {A : Type 0} where
 
   pub put-long : {d ys e : List A} {at : ℕ} → Put d at ys e → at + length ys ≤ length d → length e ≡ length d
   put-long {d} {ys} {e} {at} p h = ap length (p .same) ∙ length-write d at ys h
-
-  -- what was written is there
-  pub put-part : {d ys e : List A} {at : ℕ} → Put d at ys e → at ≤ length d → take (length ys) (drop at e) ≡ ys
-  unfolding writeAt
-  put-part {d} {ys} {e} {at} p h =
-      let r : List A = drop (at + length ys) d in
-      ap (λ (m : List A). take (length ys) (drop at m)) (p .same ∙ append-assoc (take at d) ys r)
-      ∙ ap (take (length ys)) (drop-at (take at d) (ys ++ r) at (length-take-le at d h))
-      ∙ take-append-seam ys r
 
   -- at index 0
   pub put-front : {d ys e : List A} → Put d 0 ys e → e ≡ front ys d
@@ -142,9 +133,6 @@ module _ {A : Type 0} where
   -- ---- what a loop reads: a part of n elements from index x, and the next element from index i on
   pub part-long : (s : List A) (x n : ℕ) → x + n ≤ length s → length (take n (drop x s)) ≡ n
   part-long s x n h = length-take-le n (drop x s) (omega (arith, length-drop x s))
-
-  pub part-at : (s : List A) (x n i : ℕ) (z : A) → i < n → getD (take n (drop x s)) i z ≡ getD s (x + i) z
-  part-at s x n i z h = getD-take n (drop x s) i z h ∙ getD-drop x s i z
 
   pub drop-next : (s : List A) (i : ℕ) (z : A) → i < length s → drop i s ≡ getD s i z ∷ drop (i + 1) s
   drop-next s i z h = drop-cons s i z h ∙ ap (λ (k : ℕ). getD s i z ∷ drop k s) (sym (add-one i))

@@ -9,13 +9,13 @@ use native.Mathlib.Omega.{arith}
 use lib.Dec.{T, ltb, ltb→lt, lit<}
 use lib.Pow.{areBytes}
 use lib.ListN.{length, take, drop, getD, set, List·getD-eq-default, drop-of-length-le, length-set}
-use lib.Seq.{take-nil, take-at, drop-cons, drop-drop, drop-append-add}
+use lib.Seq.{take-nil, take-at, drop-cons, drop-drop}
 use mir.Syntax.{w8}
 use mir.Val.{Fits}
 use mir.Facts.{and-yes}
 use Rattle.little.specs.Numbers.{numberIn, numberAt, bytesOf}
 use Rattle.little.specs.Writing.{Put}
-use Rattle.little.proofs.Filling.{put-part, two-stores, four-stores, four-parts}
+use Rattle.little.proofs.Filling.{two-stores, four-stores, four-parts}
 
 -- one byte more in front
 pub number-more : (n : ℕ) (s : List ℕ) (at : ℕ) → numberAt (suc n) s at ≡ getD s at 0 + 256 * numberAt n s (suc at)
@@ -112,11 +112,7 @@ module _ (s : List ℕ) (b : (k : ℕ) → Fits w8 (getD s k 0)) where
       (copied 4 (i + 12) (omega arith) t k)
       refl (omega arith) (omega arith) refl (omega arith) (omega arith) (omega arith) (omega arith)
 
--- ---- where a number stands in a list: after a front, in a part, and where it was put
-pub number-after : (n : ℕ) (xs s : List ℕ) (at : ℕ) → numberAt n (xs ++ s) (length xs + at) ≡ numberAt n s at
-unfolding numberAt
-number-after n xs s at = ap (λ (l : List ℕ). numberIn (take n l)) (drop-append-add xs s at)
-
+-- ---- where a number stands in a list: in a part, and at the front
 pub number-dropped : (n : ℕ) (s : List ℕ) (from at : ℕ) → numberAt n (drop from s) at ≡ numberAt n s (from + at)
 unfolding numberAt
 number-dropped n s from at = ap (λ (l : List ℕ). numberIn (take n l)) (drop-drop at from s)
@@ -124,11 +120,6 @@ number-dropped n s from at = ap (λ (l : List ℕ). numberIn (take n l)) (drop-d
 pub number-first : (n v : ℕ) (s : List ℕ) → v < 256 ^ n → numberAt n (bytesOf n v ++ s) 0 ≡ v
 unfolding numberAt
 number-first n v s h = ap numberIn (take-at (bytesOf n v) s n (length-bytes n v)) ∙ bytes-say n v h
-
-pub number-put : (n : ℕ) {d e : List ℕ} {at : ℕ} (v : ℕ) → Put d at (bytesOf n v) e → at ≤ length d → v < 256 ^ n → numberAt n e at ≡ v
-unfolding numberAt
-number-put n {d} {e} {at} v p h g =
-    ap (λ (k : ℕ). numberIn (take k (drop at e))) (sym (length-bytes n v)) ∙ ap numberIn (put-part p h) ∙ bytes-say n v g
 
 -- in the words of the code: the stores of two bytes and of four
 module _ {d : List ℕ} {at : ℕ} (v : ℕ) where

@@ -6,13 +6,12 @@ use libc::STDIN_FILENO;
 use riff::Spot;
 use tables::Cue;
 use tables::Cues;
-ghost use Prim.Native.Nat.{_≤_, _<_};
+ghost use Prim.Native.Nat.{_-_, _≤_};
 ghost use lib.ListN.{length};
 
 // The position of a cue, after a blank.
 fn position(cue: Cue) {
-    show::word(b" ");
-    show::number(cue.position.0 as u64);
+    show::field(b" ", cue.position.0 as u64);
 }
 
 // The positions of the cues.
@@ -31,16 +30,12 @@ fn positions(cues: Cues) {
 fn sound(file: &[u8]) {
     let spot = reader::sound_spot(file);
     let bytes = reader::sound_of(file);
-    show::word(b"sound");
+    show::word(b"sound ");
     if let Spot::At(place) = spot {
-        show::word(b" at ");
-        show::number(place.start.0 as u64);
+        show::field(b"at ", place.start.0 as u64);
+        show::word(b" ");
     }
-    show::word(b" bytes ");
-    show::number(bytes.len() as u64);
-    show::word(b" mixed ");
-    show::number(show::mixed_bytes(bytes));
-    show::line();
+    show::mixed_line(bytes);
 }
 
 // What the listing of a file leaves out.
@@ -49,44 +44,32 @@ fn more(file: &[u8]) {
     let made = reading.made;
     let format = made.format;
     let cues = made.cues;
-    show::word(b"align ");
-    show::number(format.align as u64);
-    show::word(b" samples ");
-    show::number(format.samples as u64);
+    show::field(b"align ", format.align as u64);
+    show::field(b" samples ", format.samples as u64);
     show::word(b" positions");
     positions(cues);
     show::line();
 }
 
-// Lists the file of the entry at a place, and answers how long the entry is.
-fn entry(input: &[u8], at: usize) -> usize
-    requires { ⌜ at < 65536 ⌝ }
-    ensures { λ r. ⌜ (1 ≤ r) × (r < 4295040000) ⌝ }
+// Lists the file of the first entry of a table, and hands out the entries that follow.
+fn entry(table: &[u8]) -> &[u8]
+    ensures { λ r. ⌜ length (now r) ≤ length (now (table .entry)) - 1 ⌝ }
 {
-    let label = little::u16_or_zero(input, at) as usize;
-    show::word(riff::bytes_from(input, at + 2, label));
-    show::line();
-    let size = little::u32_or_zero(input, at + 2 + label) as usize;
-    let file = riff::bytes_from(input, at + 6 + label, size);
+    let rest = entries::labelled(table, 2);
+    let size = little::u32_or_zero(rest, 0) as usize;
+    let file = riff::bytes_from(rest, 4, size);
     listing::list(file);
     more(file);
     sound(file);
-    6 + label + size
-}
-
-// Lists every file of the input.
-fn entries(input: &[u8])
-    requires { ⌜ length (now input) ≤ 65536 ⌝ }
-{
-    let mut at = 0;
-    while at < input.len() {
-        let size = entry(input, at);
-        at += size;
-    }
+    entries::past(rest, 4 + size)
 }
 
 fn main() {
     let mut buffer = [0u8; 65536];
     let n = io::read_full(STDIN_FILENO, &mut buffer);
-    entries(&buffer[..n]);
+    let mut table = &buffer[..n];
+    while 0 < table.len() {
+        let rest = entry(table);
+        table = rest;
+    }
 }

@@ -40,6 +40,16 @@ fn wide(byte: u8) -> u64 {
     byte as u64
 }
 
+// One of two words, and the end of the line.
+pub fn either(first: bool, yes: &[u8], no: &[u8]) {
+    if first {
+        word(yes);
+    } else {
+        word(no);
+    }
+    line();
+}
+
 // Bytes in hexadecimal, each as two digits after a blank.
 pub fn bytes(values: &[u8]) {
     let mut i = 0;
@@ -68,6 +78,13 @@ pub fn mixed_bytes(values: &[u8]) -> u64 {
         i += 1;
     }
     mix
+}
+
+// How many bytes there are, and a number mixed of them, to the end of the line.
+pub fn mixed_line(values: &[u8]) {
+    field(b"bytes ", values.len() as u64);
+    field(b" mixed ", mixed_bytes(values));
+    line();
 }
 
 // Samples in decimal digits, each after a blank.

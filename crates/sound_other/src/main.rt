@@ -28,10 +28,7 @@ fn sound_line(out: &[i16], size: usize) {
     }
     let mut raw = [0u8; 131072];
     samples::to_pcm16(out, &mut raw);
-    let bytes = riff::bytes_from(&raw, 0, size);
-    show::field(b"bytes ", bytes.len() as u64);
-    show::field(b" mixed ", show::mixed_bytes(bytes));
-    show::line();
+    show::mixed_line(riff::bytes_from(&raw, 0, size));
 }
 
 // Decodes a whole file, and answers how many frames it has, 0 where it is refused.
@@ -92,26 +89,12 @@ fn both(file: &[u8]) {
     blocks(file, format.channels, frames);
 }
 
-// Decodes the file of a name.
-fn decode_file(name: &[u8]) {
-    show::word(name);
-    show::line();
-    let file = os::open_read(name);
-    if file < 0 {
-        os::fail(name);
-        return;
-    }
-    let mut buffer = [0u8; 65536];
-    let n = io::read_full(file, &mut buffer);
-    libc::close(file);
-    both(&buffer[..n]);
-}
-
 // Decodes the file of an argument.
 fn decode_argument(i: usize) {
-    let mut name = io::buffer();
-    let n = os::arg(i, &mut name);
-    decode_file(&name[..n]);
+    arguments::print(i);
+    let mut buffer = [0u8; 65536];
+    let n = arguments::read(i, &mut buffer);
+    both(&buffer[..n]);
 }
 
 fn main() {

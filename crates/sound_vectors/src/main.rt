@@ -7,7 +7,7 @@
 // Before that each sample is 7.
 use libc::STDIN_FILENO;
 use sound::Decoded;
-ghost use Prim.Native.Nat.{_≤_, _<_};
+ghost use Prim.Native.Nat.{_-_, _≤_};
 ghost use lib.ListN.{length};
 
 // The answer of decoding.
@@ -61,36 +61,25 @@ fn decode_in(file: &[u8], kind: u16, block: u32, room: usize) {
     decode(file, kind, block, &mut out[..room]);
 }
 
-// Works on the entry at a place, and answers how long it is.
-fn entry(input: &[u8], at: usize) -> usize
-    requires { ⌜ at < 65536 ⌝ }
-    ensures { λ r. ⌜ (1 ≤ r) × (r ≤ 131082) ⌝ }
+// Works on the first entry of a table, and hands out those that follow.
+fn entry(table: &[u8]) -> &[u8]
+    ensures { λ r. ⌜ length (now r) ≤ length (now (table .entry)) - 1 ⌝ }
 {
-    let label = little::u16_or_zero(input, at) as usize;
-    let kind = little::u16_or_zero(input, at + 2);
-    let block = little::u32_or_zero(input, at + 4);
-    let room = little::u16_or_zero(input, at + 8) as usize;
-    let size = little::u16_or_zero(input, at + 10) as usize;
-    show::word(riff::bytes_from(input, at + 12, label));
-    show::line();
-    let file = riff::bytes_from(input, at + 12 + label, size);
-    decode_in(file, kind, block, room);
-    12 + label + size
-}
-
-// Works on every entry of the input.
-fn entries(input: &[u8])
-    requires { ⌜ length (now input) ≤ 65536 ⌝ }
-{
-    let mut at = 0;
-    while at < input.len() {
-        let size = entry(input, at);
-        at += size;
-    }
+    let kind = little::u16_or_zero(table, 2);
+    let block = little::u32_or_zero(table, 4);
+    let room = little::u16_or_zero(table, 8) as usize;
+    let size = little::u16_or_zero(table, 10) as usize;
+    let rest = entries::labelled(table, 12);
+    decode_in(riff::bytes_from(rest, 0, size), kind, block, room);
+    entries::past(rest, size)
 }
 
 fn main() {
     let mut buffer = [0u8; 65536];
     let n = io::read_full(STDIN_FILENO, &mut buffer);
-    entries(&buffer[..n]);
+    let mut table = &buffer[..n];
+    while 0 < table.len() {
+        let rest = entry(table);
+        table = rest;
+    }
 }

@@ -1,7 +1,7 @@
 -- How long the bytes of a table are, and where its entries stand in them, once for both tables. Assumes nothing.
 use mathlib.Core.Path.{_≡_, refl, sym, ap, _∙_}
 use mathlib.Core.List.{List, [], _∷_, _++_}
-use Prim.Native.Nat.{ℕ, zero, suc, _+_, _*_, _%_, _<_}
+use Prim.Native.Nat.{ℕ, zero, suc, _+_, _*_, _<_}
 use native.Mathlib.Nat.{mul-zero, mul-suc}
 use native.Mathlib.Omega.{arith}
 use lib.ListN.{length, take, drop, getD, length-append}
@@ -64,9 +64,6 @@ module _ (c : Cues) where
   unfolding cuesBytes
   cues-long h = table-long cueBytes 24 cue-long (c .count) (c .list) h
 
-  pub cues-even : length (c .list) ≡ 64 → length (cuesBytes c) % 2 ≡ 0
-  cues-even h = omega (arith, cues-long h)
-
   pub cues-none : c .count ≡ 0 → cuesBytes c ≡ 0 ∷ 0 ∷ 0 ∷ 0 ∷ []
   unfolding cuesBytes tableBytes entryBytes bytesOf held
   cues-none e = rw e refl
@@ -75,9 +72,6 @@ module _ (p : Playlist) where
   pub plays-long : length (p .list) ≡ 64 → length (playsBytes p) ≡ 4 + 12 * held (p .count)
   unfolding playsBytes
   plays-long h = table-long playBytes 12 play-long (p .count) (p .list) h
-
-  pub plays-even : length (p .list) ≡ 64 → length (playsBytes p) % 2 ≡ 0
-  plays-even h = omega (arith, plays-long h)
 
   pub plays-none : p .count ≡ 0 → playsBytes p ≡ 0 ∷ 0 ∷ 0 ∷ 0 ∷ []
   unfolding playsBytes tableBytes entryBytes bytesOf held

@@ -1,15 +1,14 @@
 -- How long a chunk and the file are, in the words of the code. Assumes nothing.
 use mathlib.Core.Path.{_≡_, refl, sym, _∙_}
-use mathlib.Core.Bool.{Bool, true, false, cond}
-use mathlib.Core.List.{List, []}
+use mathlib.Core.Bool.{Bool, true, false}
+use mathlib.Core.List.{List}
 use Prim.Native.Nat.{ℕ, _+_, _%_, _≤_, _<_}
 use native.Mathlib.Omega.{arith}
 use lib.ListN.{length}
 use borrow.Author.Tests.{lt-leb, le-leb}
 use Rattle.units.specs.declared.Frames.{Frames}
-use Rattle.codes.specs.declared.Code.{Code}
-use Rattle.riff.specs.Laying.{Part, pieceBytes, partBytes, piece, extent, extentIf}
-use Rattle.riff.proofs.Laying.{length-piece, length-laid}
+use Rattle.riff.specs.Laying.{Part, extentIf}
+use Rattle.riff.proofs.Laying.{length-laid}
 use Rattle.formats.specs.declared.Format.{Format}
 use Rattle.formats.specs.Frames.{needsFact}
 use Rattle.formats.specs.Bytes.{formatBytes}
@@ -29,14 +28,6 @@ module _ (p : Part) where
   written : {n : ℕ} → p .there ≡ true → n ≡ length (p .bytes) → n % 2 ≡ 0 → 8 + n ≡ extentIf p
   unfolding extentIf
   written {n} e f g = simp (e, ← f) (omega arith)
-
-  pub length-part : (c : Code) → length (partBytes c p) ≡ extentIf p
-  unfolding partBytes extentIf
-  length-part c = by (p .there)
-    where
-      by : (b : Bool) → length (cond b (pieceBytes (piece c (p .bytes))) []) ≡ cond b (extent (length (p .bytes))) 0
-      by true = length-piece (piece c (p .bytes))
-      by false = refl
 
 module _ (f : Format) (frames : Frames) {a : Bool} (e : a ≡ needsFact f) where
   pub fact-size : a ≡ true → 12 ≡ extentIf (factPart f frames)

@@ -1,0 +1,235 @@
+// Writes each record and its sound on standard input, under its label, and reads back what it wrote. An entry of
+// the input is fourteen numbers, the label, a `cue ` and a `plst` as they stand in files, and the sound; all in
+// 65,536 bytes. The numbers are: the length of the label; the room in bytes, at most 16,384; the lengths of the
+// sound, the `cue ` and the `plst`; tag, channels, bits, align and samples, all in two bytes each; rate, frames,
+// and how many cues and playlist entries the record counts, in four each.
+//
+// It prints the answer; the file, or of more than 128 bytes a number mixed of them; whether the rest of the lent
+// buffer is untouched, where each byte was 170; and whether the file reads back as the record, with nothing past
+// its counts, and the sound.
+use formats::Format;
+use libc::STDIN_FILENO;
+use rules::Record;
+use tables::Cues;
+use tables::Playlist;
+use units::Frames;
+use units::Refusal;
+use units::Verdict;
+use writer::Written;
+ghost use Prim.Native.Nat.{_-_, _≤_};
+ghost use lib.ListN.{length};
+
+// ---- the record of an entry
+
+// The format in the head of an entry.
+fn format_in(head: &[u8]) -> Format {
+    Format {
+        tag: little::u16_or_zero(head, 10),
+        channels: little::u16_or_zero(head, 12),
+        rate: little::u32_or_zero(head, 20),
+        bits: little::u16_or_zero(head, 14),
+        align: little::u16_or_zero(head, 16),
+        samples: little::u16_or_zero(head, 18),
+    }
+}
+
+// The cues of a `cue `, counted otherwise.
+fn cues_in(cue: &[u8], count: u32) -> Cues {
+    let cues = tables::cues_of(cue);
+    let list = cues.list;
+    Cues {
+        count: count,
+        list: list,
+    }
+}
+
+// The entries of a `plst`, counted otherwise.
+fn plays_in(plst: &[u8], count: u32) -> Playlist {
+    let playlist = tables::plays_of(plst);
+    let list = playlist.list;
+    Playlist {
+        count: count,
+        list: list,
+    }
+}
+
+// The record of an entry, with the tables of a `cue ` and a `plst`.
+fn record_in(head: &[u8], cue: &[u8], plst: &[u8]) -> Record {
+    Record {
+        format: format_in(head),
+        frames: Frames(little::u32_or_zero(head, 24)),
+        cues: cues_in(cue, little::u32_or_zero(head, 28)),
+        playlist: plays_in(plst, little::u32_or_zero(head, 32)),
+    }
+}
+
+// The same with nothing past its counts.
+fn counted_in(head: &[u8], cue: &[u8], plst: &[u8]) -> Record {
+    let cues = little::u32_or_zero(head, 28) as usize;
+    let plays = little::u32_or_zero(head, 32) as usize;
+    record_in(
+        head,
+        riff::bytes_from(cue, 0, 4 + 24 * cues),
+        riff::bytes_from(plst, 0, 4 + 12 * plays),
+    )
+}
+
+// ---- reading back
+
+// Whether two formats are the same.
+fn same_format(a: Format, b: Format) -> bool {
+    a.tag == b.tag
+        && a.channels == b.channels
+        && a.rate == b.rate
+        && a.bits == b.bits
+        && a.align == b.align
+        && a.samples == b.samples
+}
+
+// All places for cues, as bytes.
+fn cue_bytes(cues: Cues) -> [u8; 1540] {
+    let list = cues.list;
+    let all = Cues {
+        count: 64,
+        list: list,
+    };
+    // By its contract 1,540 bytes are enough.
+    tables::cues_size(all);
+    let mut bytes = [0u8; 1540];
+    tables::put_cues(&mut bytes, 0, all);
+    bytes
+}
+
+// All places for playlist entries, as bytes.
+fn play_bytes(playlist: Playlist) -> [u8; 772] {
+    let list = playlist.list;
+    let all = Playlist {
+        count: 64,
+        list: list,
+    };
+    // By its contract 772 bytes are enough.
+    tables::plays_size(all);
+    let mut bytes = [0u8; 772];
+    tables::put_plays(&mut bytes, 0, all);
+    bytes
+}
+
+// Whether two cue tables are the same, past their counts too.
+fn same_cues(a: Cues, b: Cues) -> bool {
+    a.count == b.count && check::same(&cue_bytes(a), &cue_bytes(b))
+}
+
+// Whether two playlists are the same, past their counts too.
+fn same_plays(a: Playlist, b: Playlist) -> bool {
+    a.count == b.count && check::same(&play_bytes(a), &play_bytes(b))
+}
+
+// Whether two records are the same.
+fn same_record(a: Record, b: Record) -> bool {
+    let format = a.format;
+    let format_too = b.format;
+    let cues = a.cues;
+    let cues_too = b.cues;
+    let playlist = a.playlist;
+    let playlist_too = b.playlist;
+    same_format(format, format_too)
+        && a.frames.0 == b.frames.0
+        && same_cues(cues, cues_too)
+        && same_plays(playlist, playlist_too)
+}
+
+// Whether a file reads back as a record and its sound.
+fn reads_back(file: &[u8], made: Record, sound: &[u8]) -> bool {
+    let reading = reader::read(file);
+    let verdict = reading.verdict;
+    let Verdict::Accepted = verdict else {
+        return false;
+    };
+    let back = reading.made;
+    same_record(back, made) && check::same(reader::sound_of(file), sound)
+}
+
+// ---- writing
+
+// A file, or a number mixed of it.
+fn file_line(file: &[u8]) {
+    if 128 < file.len() {
+        show::field(b"mixed ", show::mixed_bytes(file));
+    } else {
+        show::word(b"file");
+        show::bytes(file);
+    }
+    show::line();
+}
+
+// Whether what nothing was written to is as it was.
+fn rest_line(rest: &[u8]) {
+    let before = [170u8; 16384];
+    let n = rest.len();
+    show::field(b"rest ", n as u64);
+    show::either(
+        check::same(rest, riff::bytes_from(&before, 0, n)),
+        b" untouched",
+        b" changed",
+    );
+}
+
+// A refusal, and the lent buffer.
+fn refused_lines(refusal: Refusal, out: &[u8]) {
+    listing::refused(refusal);
+    rest_line(out);
+}
+
+// What was written to a lent buffer, and whether it reads back.
+fn written_lines(size: usize, out: &[u8], made: Record, sound: &[u8]) {
+    let file = riff::bytes_from(out, 0, size);
+    show::field(b"bytes ", size as u64);
+    show::line();
+    file_line(file);
+    rest_line(entries::past(out, size));
+    show::either(reads_back(file, made, sound), b"reads back", b"differs");
+}
+
+// Writes a record and its sound to a lent buffer; counted is the record with nothing past its counts.
+fn write(made: Record, counted: Record, sound: &[u8], out: &mut [u8]) {
+    match writer::write(made, sound, out) {
+        Written::Bytes(size) => written_lines(size.0, out, counted, sound),
+        Written::Refused(refusal) => refused_lines(refusal, out),
+    }
+}
+
+// Writes the record of an entry and its sound.
+fn write_in(head: &[u8], cue: &[u8], plst: &[u8], sound: &[u8]) {
+    let made = record_in(head, cue, plst);
+    let counted = counted_in(head, cue, plst);
+    let mut out = [170u8; 16384];
+    let room = io::count(little::u16_or_zero(head, 2) as isize, &out);
+    write(made, counted, sound, &mut out[..room]);
+}
+
+// Works on the first entry of a table, and hands out those that follow.
+fn entry(table: &[u8]) -> &[u8]
+    ensures { λ r. ⌜ length (now r) ≤ length (now (table .entry)) - 1 ⌝ }
+{
+    let sound = little::u16_or_zero(table, 4) as usize;
+    let cue = little::u16_or_zero(table, 6) as usize;
+    let plst = little::u16_or_zero(table, 8) as usize;
+    let rest = entries::labelled(table, 36);
+    write_in(
+        table,
+        riff::bytes_from(rest, 0, cue),
+        riff::bytes_from(rest, cue, plst),
+        riff::bytes_from(rest, cue + plst, sound),
+    );
+    entries::past(rest, cue + plst + sound)
+}
+
+fn main() {
+    let mut buffer = [0u8; 65536];
+    let n = io::read_full(STDIN_FILENO, &mut buffer);
+    let mut table = &buffer[..n];
+    while 0 < table.len() {
+        let rest = entry(table);
+        table = rest;
+    }
+}
