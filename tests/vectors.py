@@ -80,6 +80,10 @@ def little():
     for at, piece in puts:
         buffer[at:at + len(piece)] = piece
         lines.append('buffer' + hexed(buffer))
+    # a copy takes 64 bytes at a turn
+    for n in (63, 64, 65, 128, 129, 150):
+        run = bytes(i * 37 % 251 for i in range(n))
+        lines.append('buffer' + hexed(b'\xaa' * 5 + run + b'\xaa' * (155 - n)))
     return data, '\n'.join(lines) + '\n'
 
 
