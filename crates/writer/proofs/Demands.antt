@@ -80,7 +80,7 @@ accepted m w room k l r =
 
 pub again : Again
 unfolding Again
-again s room e l =
+again s e =
     let m : Record = reading s .made in
     let w : List ℕ = soundIn s in
     let c : holds m w ≡ contentOf s = content-taken s refl e refl in
@@ -88,11 +88,7 @@ again s room e l =
     let n = not-longer s (h .places) (h .walked) (h .formatThere) (h .soundThere) (h .verdict) in
     let f : length (fileOf m w) ≤ length s = subst (λ (k : ℕ). k ≤ length s) (λ i. length (fileOf (h .made i) (h .sound i))) n in
     let i = whole-limit s refl (h .walked) in
-    record {
-      bytes = sizeOf (fileOf m w);
-      written = accepted m w room (content-rules s c) (omega arith) (omega arith);
-      shorter = f;
-    }
+    record { written = λ room l. accepted m w room (content-rules s c) (omega arith) l; shorter = f }
 
 -- ---- a refusal is the number that reading gives
 same : (q r : Refusal) → _≡_ {A = Verdict} (Refused q) (Refused r) → q ≡ r

@@ -25,14 +25,19 @@ unfoldable pub Back : Type 0
 Back =
     (m : Record) (w : List ℕ) (room : ℕ) (n : BytePlace) → RecordFits m → writing m w room ≡ Bytes n → ReadsBack m w
 
--- ---- every record that reading gives is written with that file's sound, where there is room for that file: the new one is not longer
-pub record Rewritten (s : List ℕ) (room : ℕ) : Type 0 where
-  pub bytes : BytePlace
-  pub written : writing (reading s .made) (soundIn s) room ≡ Bytes bytes
-  pub shorter : bytes .0 ≤ length s
+-- ---- every record that reading gives is written with that file's sound, wherever there is room for the new file, which is not
+-- longer than the old one
+
+abbrev pub newFile : List ℕ → List ℕ
+newFile s = fileOf (reading s .made) (soundIn s)
+
+pub record Rewritten (s : List ℕ) : Type 0 where
+  pub written : (room : ℕ) → length (newFile s) ≤ room
+      → writing (reading s .made) (soundIn s) room ≡ Bytes (record { 0 = length (newFile s) })
+  pub shorter : length (newFile s) ≤ length s
 
 unfoldable pub Again : Type 0
-Again = (s : List ℕ) (room : ℕ) → reading s .verdict ≡ verdict.Accepted → length s ≤ room → Rewritten s room
+Again = (s : List ℕ) → reading s .verdict ≡ verdict.Accepted → Rewritten s
 
 -- ---- a refusal of `write` is the number that reading the bytes gives, where those bytes carry the fault
 
