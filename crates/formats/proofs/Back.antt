@@ -1,17 +1,18 @@
 -- `fmt ` and `fact` there and back: what the bytes that were written say, number by number. Assumes nothing.
-use mathlib.Core.Path.{_≡_, ap, _∙_, subst}
-use mathlib.Core.Bool.{true}
+use mathlib.Core.Path.{_≡_, refl, sym, ap, _∙_, subst}
+use mathlib.Core.Bool.{true, cond}
 use mathlib.Core.List.{List, [], _++_}
 use Prim.Native.Nat.{ℕ, _<_}
 use native.Mathlib.Omega.{arith}
+use borrow.Author.Tests.{eq-eqb, ne-eqb}
 use Rattle.little.specs.Numbers.{numberAt, bytesOf}
 use Rattle.little.proofs.Reading.{bytes-say}
 use Rattle.little.proofs.Tests.{tests}
 use Rattle.units.specs.declared.Frames.{Frames}
 use Rattle.formats.specs.declared.Format.{Format}
 use Rattle.formats.specs.Format.{byTag, samplesIn, formatOf, formatRule}
-use Rattle.formats.specs.Bytes.{averageOf, sharedBytes, extensionBytes, coefficientBytes, formatBytes, factBytes, FormatFits}
-use Rattle.formats.proofs.Taken.{by-format}
+use Rattle.formats.specs.Bytes.{averageOf, sharedBytes, extensionBytes, coefficientBytes, formatBytes, factBytes, saidFormat, FormatFits}
+use Rattle.formats.proofs.Taken.{by-eqb, by-format}
 use Rattle.formats.proofs.Bounds.{taken-fits}
 use Rattle.formats.proofs.Lengths.{bytes-pcm, bytes-ima, bytes-microsoft}
 
@@ -95,6 +96,26 @@ format-carried f h s e =
     (λ u p. let v : f .tag ≡ 1 = omega arith in same (pcm-back f h v (s v)))
     (λ u p. same (ima-back f h (λ n. omega arith) (omega arith)))
     (λ u p. same (microsoft-back f h (λ n. omega arith) (λ m. omega arith) (omega arith)))
+
+-- the bytes are those of what they say, and what is read of them is taken only where that is
+said-bytes-same : (f : Format) → formatBytes (saidFormat f) ≡ formatBytes f
+unfolding formatBytes sharedBytes extensionBytes averageOf saidFormat
+said-bytes-same f = by-eqb (f .tag) 1 (λ _. formatBytes (saidFormat f) ≡ formatBytes f) (λ t. simp (eq-eqb (f .tag) 1 t)) (λ n. simp (ne-eqb (f .tag) 1 n))
+
+pub format-said : (f : Format) → FormatFits f → formatRule (formatOf (formatBytes f)) ≡ true → formatRule (saidFormat f) ≡ true
+unfolding saidFormat
+format-said f h e =
+    format-carried (saidFormat f)
+    (record {
+      tag = h .tag;
+      channels = h .channels;
+      rate = h .rate;
+      bits = h .bits;
+      align = h .align;
+      samples = by-eqb (f .tag) 1 (λ b. cond b 1 (f .samples) < 65536) (λ t. omega arith) (λ n. h .samples);
+    })
+    (λ t. let k = eq-eqb (f .tag) 1 t in simp k)
+    (subst (λ (s : List ℕ). formatRule (formatOf s) ≡ true) (sym (said-bytes-same f)) e)
 
 pub fact-back : (frames : Frames) → frames .0 < 4294967296 → numberAt 4 (factBytes frames) 0 ≡ frames .0
 unfolding factBytes bytesOf numberAt

@@ -1,6 +1,5 @@
 -- The bytes of `fmt ` and `fact`, as the writer puts them. Assumes nothing.
 use Prim.Native.Nat.{ℕ, _*_, _/_, _<_}
-use mathlib.Core.Path.{_≡_}
 use mathlib.Core.Bool.{cond}
 use mathlib.Core.List.{List, [], _∷_, _++_}
 use lib.Dec.{eqb}
@@ -47,6 +46,18 @@ formatBytes f =
 -- `fact`: F
 unfoldable pub factBytes : Frames → List ℕ
 factBytes frames = bytesOf 4 (frames .0)
+
+-- what a `fmt ` says of a format: of PCM not its samples per block, which are read as 1
+unfoldable pub saidFormat : Format → Format
+saidFormat f =
+    record {
+      tag = f .tag;
+      channels = f .channels;
+      rate = f .rate;
+      bits = f .bits;
+      align = f .align;
+      samples = cond (eqb (f .tag) 1) 1 (f .samples);
+    }
 
 -- the numbers of a format fit the fields that they are written to, as those of the code's types do
 pub record FormatFits (f : Format) : Type 0 where

@@ -120,6 +120,9 @@ module _ {A : Type 0} where
   pub first-room : (xs ys : List A) (at : ℕ) {m : ℕ} → at + length (xs ++ ys) ≤ m → at + length xs ≤ m
   first-room xs ys at h = omega (arith, length-append xs ys)
 
+  pub second-room : (xs ys : List A) (at : ℕ) {m : ℕ} → at + length (xs ++ ys) ≤ m → at + length ys ≤ m
+  second-room xs ys at h = omega (arith, length-append xs ys)
+
   pub both-end : (xs ys : List A) (at : ℕ) {at′ end : ℕ} → at′ ≡ at + length xs → end ≡ at′ + length ys → end ≡ at + length (xs ++ ys)
   both-end xs ys at n k = omega (arith, length-append xs ys)
 
@@ -129,6 +132,11 @@ module _ {A : Type 0} where
 
     pub both-put : {g : List A} → Put e at′ ys g → Put d at (xs ++ ys) g
     both-put q = put-next p q n (omega (arith, length-append xs ys))
+
+  -- there is room for the first also where the second is written before it
+  pub other-room : (xs ys : List A) {d e : List A} {at at′ : ℕ} → at + length (xs ++ ys) ≤ length d → Put d at ys e → at′ ≡ at + length ys
+      → at′ + length xs ≤ length e
+  other-room xs ys {at = at} h p n = let l = put-long p (second-room xs ys at h) in omega (arith, length-append xs ys)
 
   -- ---- what a loop reads: a part of n elements from index x, and the next element from index i on
   pub part-long : (s : List A) (x n : ℕ) → x + n ≤ length s → length (take n (drop x s)) ≡ n
@@ -243,7 +251,7 @@ module _ {A : Type 0} {ys d d₀ : List A} {at i : ℕ} (w : Written ys at i d d
             ∙ ap (λ (z : List A). z ++ r) (append-assoc (take at d₀) (take j ys) (drop j ys) ∙ ap (λ (z : List A). take at d₀ ++ z) (take-append-drop j ys));
       }
 
-pub ruleset behind = (first-room, both-end, next-room, both-put)
+pub ruleset behind = (first-room, second-room, both-end, next-room, other-room, both-put)
 
 pub ruleset copying = (write-begins, write-room, copy-next, write-ends)
 

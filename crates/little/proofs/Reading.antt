@@ -3,7 +3,7 @@
 use mathlib.Core.Path.{_≡_, refl, sym, ap, _∙_, subst}
 use mathlib.Core.List.{List, [], _∷_, _++_}
 use Prim.Native.Nat.{ℕ, zero, suc, _+_, _*_, _/_, _%_, _^_, _≤_, _<_}
-use native.Mathlib.Nat.{pow-suc, div-lt-iff-lt-mul}
+use native.Mathlib.Nat.{pow-suc, one-le-pow, div-lt-iff-lt-mul}
 use native.Mathlib.Numerals.{add-one, add-two, add-three}
 use native.Mathlib.Omega.{arith}
 use lib.Dec.{T, ltb, ltb→lt, lit<}
@@ -12,7 +12,7 @@ use lib.ListN.{length, take, drop, getD, set, List·getD-eq-default, drop-of-len
 use lib.Seq.{take-nil, take-at, drop-cons, drop-drop}
 use mir.Syntax.{w8}
 use mir.Val.{Fits}
-use mir.Facts.{and-yes}
+use mir.Facts.{and-yes, yes-and}
 use Rattle.little.specs.Numbers.{numberIn, numberAt, bytesOf}
 use Rattle.little.specs.Writing.{Put}
 use Rattle.little.proofs.Filling.{two-stores, four-stores, four-parts}
@@ -138,3 +138,30 @@ module _ {d : List ℕ} {at : ℕ} (v : ℕ) where
 pub ruleset reading = (two-bytes, four-bytes, byte-past, number-past)
 
 pub ruleset putting = (put-two, put-four, length-set)
+
+-- ---- parts of bytes are bytes, and a number of n bytes fits them
+pub taken-bytes : (n : ℕ) (s : List ℕ) → T (areBytes s) → T (areBytes (take n s))
+taken-bytes zero s t = tt
+taken-bytes (suc n) [] t = tt
+taken-bytes (suc n) (b ∷ s) t =
+    let p = and-yes (ltb b 256) (areBytes s) t in
+    yes-and (ltb b 256) (areBytes (take n s)) (p .0) (taken-bytes n s (p .1))
+
+pub dropped-bytes : (n : ℕ) (s : List ℕ) → T (areBytes s) → T (areBytes (drop n s))
+dropped-bytes zero s t = t
+dropped-bytes (suc n) [] t = tt
+dropped-bytes (suc n) (b ∷ s) t = dropped-bytes n s (and-yes (ltb b 256) (areBytes s) t .1)
+
+first-fits : (n : ℕ) (s : List ℕ) → T (areBytes s) → numberIn (take n s) < 256 ^ n
+unfolding numberIn
+first-fits zero s t = omega arith
+first-fits (suc n) [] t = one-le-pow (suc n) 256 (lit< tt)
+first-fits (suc n) (b ∷ s) t =
+    let p = and-yes (ltb b 256) (areBytes s) t in
+    let h : b < 256 = ltb→lt b 256 (p .0) in
+    let l = first-fits n s (p .1) in
+    omega (arith, pow-suc 256 n)
+
+pub number-fits : (n : ℕ) (s : List ℕ) (at : ℕ) → T (areBytes s) → numberAt n s at < 256 ^ n
+unfolding numberAt
+number-fits n s at t = first-fits n (drop at s) (dropped-bytes at s t)

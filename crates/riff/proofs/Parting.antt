@@ -1,13 +1,16 @@
--- A part of a file that may pass its end, in the code's three cases. Assumes nothing.
+-- A part of a file that may pass its end, in the code's three cases; and what the data of a chunk has of the file. Assumes nothing.
 use mathlib.Core.Path.{_≡_, sym, ap, _∙_}
 use mathlib.Core.List.{List, []}
 use Prim.Native.Nat.{ℕ, _+_, _-_, _≤_}
 use native.Mathlib.Nat.{add-sub-cancel-left}
 use native.Mathlib.Omega.{arith}
-use lib.ListN.{length, take, drop, drop-of-length-le, length-drop}
+use lib.Dec.{T}
+use lib.ListN.{length, take, drop, drop-of-length-le, length-take, length-drop}
+use lib.Pow.{areBytes}
 use lib.Seq.{take-nil, take-all}
+use Rattle.little.proofs.Reading.{taken-bytes, dropped-bytes}
 use Rattle.riff.specs.declared.Spot.{Spot}
-use Rattle.riff.specs.declared.Spot.the-variants.{At}
+use Rattle.riff.specs.declared.Spot.the-variants.{At, Missing}
 use Rattle.riff.specs.declared.Place.{Place}
 use Rattle.riff.specs.Walk.{partOf}
 
@@ -29,3 +32,14 @@ pub ruleset parting = (bytes-none, bytes-rest, bytes-inside)
 pub part-there : (s : List ℕ) {spot : Spot} (absent : List ℕ) {p : Place} {r : List ℕ} → spot ≡ At p
     → r ≡ take (p .size .0) (drop (p .start .0) s) → r ≡ partOf s spot absent
 part-there s absent e f = f ∙ sym (ap (λ (x : Spot). partOf s x absent) e)
+
+-- ---- the data of a chunk are bytes where the file is, and not more than it has
+module _ (s : List ℕ) where
+  pub part-bytes : (spot : Spot) (absent : List ℕ) → T (areBytes s) → T (areBytes absent) → T (areBytes (partOf s spot absent))
+  part-bytes (At p) absent t u = taken-bytes (p .size .0) (drop (p .start .0) s) (dropped-bytes (p .start .0) s t)
+  part-bytes Missing absent t u = u
+
+  pub part-within : (spot : Spot) → length (partOf s spot []) ≤ length s
+  part-within (At p) =
+      omega (arith, length-take (p .size .0) (drop (p .start .0) s), length-drop (p .start .0) s)
+  part-within Missing = omega arith

@@ -20,7 +20,7 @@ use Rattle.formats.specs.declared.Format.{Format}
 use Rattle.formats.specs.Format.{formatOf, formatForm, formatRule}
 use Rattle.formats.specs.Frames.{wholeBlocks, framesOf, factForm, needsFact, framesRule}
 use Rattle.formats.specs.Bytes.{formatBytes, factBytes}
-use Rattle.formats.proofs.Back.{format-back, format-carried, fact-back}
+use Rattle.formats.proofs.Back.{format-back, format-said, fact-back}
 use Rattle.formats.proofs.Counts.{frames-pcm, frames-stored}
 use Rattle.formats.proofs.Lengths.{fact-long}
 use Rattle.formats.proofs.Taken.{unneeded-tag, wanted-tag, frames-exactly}
@@ -35,7 +35,7 @@ use Rattle.tables.proofs.Kept.{cues-rule-kept, plays-rule-kept}
 use Rattle.tables.proofs.Written.{cues-written, cues-many, plays-written, plays-many}
 use Rattle.rules.specs.declared.Record.{Record}
 use Rattle.rules.specs.Rules.{fine, formatFine, factFine, cuesFine, playsFine, inOrder, verdictOf, recordVerdict, Writable, recordOf}
-use Rattle.rules.specs.Written.{recordKept, RecordFits, Carried}
+use Rattle.rules.specs.Written.{recordKept, RecordFits, FaultSaid}
 use Rattle.rules.proofs.Taken.{record-taken}
 
 -- ---- five demands and five others give the same verdict, where each pair is the same as far as those before are met
@@ -80,7 +80,7 @@ abbrev zeros : List ℕ
 zeros = 0 ∷ 0 ∷ 0 ∷ 0 ∷ []
 
 -- ---- the format
-module _ (m : Record) (n : BytePlace) (h : RecordFits m) (k : Carried m n) where
+module _ (m : Record) (n : BytePlace) (h : RecordFits m) (k : FaultSaid m n) where
   abbrev f : Format
   f = m .format
 
@@ -95,7 +95,7 @@ module _ (m : Record) (n : BytePlace) (h : RecordFits m) (k : Carried m n) where
       (λ e. fine-unruled (formatForm (formatBytes f)) (unread e (formatRule (formatOf (formatBytes f))) refl))
     where
       unread : formatRule f ≡ false → (b : Bool) → formatRule (formatOf (formatBytes f)) ≡ b → b ≡ false
-      unread e true g = absurd (clash (format-carried f (h .format) (k .samples (format-wrong e)) g) e)
+      unread e true g = absurd (clash (format-said f (h .format) g) (k .format (format-wrong e)))
       unread e false g = refl
 
   -- ---- the frames: of ADPCM the fact says them, of PCM the sound does
@@ -174,10 +174,10 @@ module _ (c : Cues) (h : CuesFit c) (frames : Frames) where
         (λ l. fine-no (playsRule (playsOf (playsBytes p)) (cuesOf (cuesBytes c)) frames) (plays-many i l) ∙ sym (many-plays l))
 
 -- a record that keeps the rules has no fault
-pub carried : {m : Record} {n : BytePlace} → Writable m n → Carried m n
-carried {m} {n} k =
+pub no-fault : {m : Record} {n : BytePlace} → Writable m n → FaultSaid m n
+no-fault {m} {n} k =
     record {
-      samples = λ e t. absurd (taken (sym (record-taken k) ∙ e));
+      format = λ e. absurd (taken (sym (record-taken k) ∙ e));
       frames = λ e. absurd (taken (sym (record-taken k) ∙ e));
     }
   where
@@ -196,7 +196,7 @@ module _ (m : Record) (n : BytePlace) (h : RecordFits m) {fact : List ℕ}
   abbrev plst : List ℕ
   plst = playsBytes (m .playlist)
 
-  pub verdict-back : Carried m n → verdictOf fmt n fact cue plst (recordOf fmt n fact cue plst) ≡ recordVerdict m n
+  pub verdict-back : FaultSaid m n → verdictOf fmt n fact cue plst (recordOf fmt n fact cue plst) ≡ recordVerdict m n
   unfolding verdictOf recordVerdict recordOf
   verdict-back k =
       same-order (format-same m n h k)
@@ -214,5 +214,5 @@ module _ (m : Record) (n : BytePlace) (h : RecordFits m) {fact : List ℕ}
       let f = format-back (m .format) (k .format) in
       let c = cues-back (h .cues) in
       let p = plays-back (h .plays) in
-      let g = ap (λ (f : Format). framesOf f n fact) f ∙ counted m n h (carried k) (k .format) (k .whole) (e (k .format)) (k .count) in
+      let g = ap (λ (f : Format). framesOf f n fact) f ∙ counted m n h (no-fault k) (k .format) (k .whole) (e (k .format)) (k .count) in
       λ i. record { format = f i; frames = g i; cues = c i; playlist = p i }

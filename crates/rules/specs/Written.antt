@@ -1,12 +1,13 @@
 -- What is read back of a record that is written, and which faults its bytes carry. Assumes nothing.
 use Prim.Native.Nat.{_<_}
 use mathlib.Core.Path.{_≡_}
-use mathlib.Core.Bool.{true}
+use mathlib.Core.Bool.{true, false}
 use Rattle.units.specs.declared.BytePlace.{BytePlace}
 use Rattle.units.specs.declared.Refusal.the-variants.{FormatWrong, FactWrong}
 use Rattle.units.specs.declared.Verdict.the-variants.{Refused}
+use Rattle.formats.specs.Format.{formatRule}
 use Rattle.formats.specs.Frames.{needsFact}
-use Rattle.formats.specs.Bytes.{FormatFits}
+use Rattle.formats.specs.Bytes.{saidFormat, FormatFits}
 use Rattle.tables.specs.Bytes.{cuesKept, playsKept, CuesFit, PlaysFit}
 use Rattle.rules.specs.declared.Record.{Record}
 use Rattle.rules.specs.Rules.{recordVerdict}
@@ -23,8 +24,7 @@ pub record RecordFits (m : Record) : Type 0 where
   pub cues : CuesFit (m .cues)
   pub plays : PlaysFit (m .playlist)
 
--- the bytes carry the fault for which a record is refused: all but two of a PCM file, which says neither its samples
--- per block nor F
-pub record Carried (m : Record) (n : BytePlace) : Type 0 where
-  pub samples : recordVerdict m n ≡ Refused FormatWrong → m .format .tag ≡ 1 → m .format .samples ≡ 1
+-- the fault for which a record is refused is in what its bytes say: a PCM file says neither its samples per block nor F
+pub record FaultSaid (m : Record) (n : BytePlace) : Type 0 where
+  pub format : recordVerdict m n ≡ Refused FormatWrong → formatRule (saidFormat (m .format)) ≡ false
   pub frames : recordVerdict m n ≡ Refused FactWrong → needsFact (m .format) ≡ true

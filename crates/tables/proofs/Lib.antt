@@ -1,3 +1,4 @@
+pub mod Again
 pub mod Back
 pub mod Entries
 pub mod Forms

@@ -24,11 +24,11 @@ use Rattle.tables.specs.Bytes.{cuesBytes, playsBytes}
 use Rattle.tables.proofs.Lengths as tables
 use Rattle.rules.specs.declared.Record.{Record}
 use Rattle.rules.specs.Rules.{recordOf, verdictOf, recordVerdict}
-use Rattle.rules.specs.Written.{recordKept, RecordFits, Carried}
+use Rattle.rules.specs.Written.{recordKept, RecordFits, FaultSaid}
 use Rattle.rules.proofs.Taken.{record-keeps}
 use Rattle.rules.proofs.Back.{verdict-back, record-back}
 use Rattle.reader.specs.Content.{refused, taken, zeros, formatPart, soundPart, factPart, cuePart, playlistPart, recordAt, verdictAt, contentAt, contentIn, contentOf}
-use Rattle.writer.specs.File.{partsOf, fileOf}
+use Rattle.writer.specs.File.{sizeOf, partsOf, fileOf}
 
 -- a table is left out exactly where its bytes are those that are read in its place
 in-place : (count : ℕ) (bytes : List ℕ) → (count ≡ 0 → bytes ≡ zeros) → cond (leb 1 count) bytes zeros ≡ bytes
@@ -43,7 +43,7 @@ fact-place : (b : Bool) (bytes : List ℕ) → cond b bytes (cond b [] zeros) �
 fact-place true bytes = refl
 fact-place false bytes = refl
 
-module _ (m : Record) (w : List ℕ) (h : RecordFits m) (k : Carried m (record { 0 = length w })) (l : length (fileOf m w) ≤ 1073741824) where
+module _ (m : Record) (w : List ℕ) (h : RecordFits m) (k : FaultSaid m (sizeOf w)) (l : length (fileOf m w) ≤ 1073741824) where
   abbrev s : List ℕ
   s = fileOf m w
 
@@ -55,7 +55,7 @@ module _ (m : Record) (w : List ℕ) (h : RecordFits m) (k : Carried m (record {
   d = laid .places
 
   abbrev n : BytePlace
-  n = record { 0 = length w }
+  n = sizeOf w
 
   -- ---- the parts
   format-part : formatPart s d ≡ formatBytes (m .format)

@@ -12,26 +12,25 @@ use Rattle.units.specs.declared.Refusal.{Refusal}
 use Rattle.units.specs.declared.Refusal.the-variants.{LengthOutOfRange, FormatWrong, FactWrong, OutputTooSmall}
 use Rattle.units.specs.declared.Verdict.{Verdict}
 use Rattle.units.specs.declared.Verdict.the-variants.{Accepted, Refused}
-use Rattle.units.specs.Refusals.{demand}
+use Rattle.units.specs.Refusals.{verdictNumber, demand}
+use Rattle.units.proofs.Laws.{demand-row}
 use Rattle.riff.specs.declared.Walked.{Walked}
 use Rattle.riff.proofs.Walking.{whole-limit, too-long}
 use Rattle.rules.specs.declared.Record.{Record}
-use Rattle.rules.specs.Rules.{recordVerdict, Writable}
-use Rattle.rules.specs.Written.{recordKept, RecordFits, Carried}
+use Rattle.rules.specs.Rules.{inOrder, recordVerdict, Writable}
+use Rattle.rules.specs.Written.{recordKept, RecordFits, FaultSaid}
 use Rattle.rules.proofs.Taken.{record-taken}
-use Rattle.rules.proofs.Back.{carried}
+use Rattle.rules.proofs.Back.{no-fault}
 use Rattle.reader.specs.Content.{Content, holds, taken, contentIn, contentOf, readingOf, soundOf, reading, soundIn}
 use Rattle.reader.proofs.Kept.{held, content-taken, content-rules}
+use Rattle.reader.proofs.Again.{content-fits, content-kept-read}
 use Rattle.writer.specs.declared.Written.the-variants.{Bytes}
 use Rattle.writer.specs.declared.Written.the-variants as written
-use Rattle.writer.specs.File.{fileOf, andThen, writable, settled, answer, writing}
-use Rattle.writer.specs.Demands.{Back, Again, SameNumber}
+use Rattle.writer.specs.File.{sizeOf, fileOf, andThen, beforeRoom, settled, answer, writing, writtenNumber}
+use Rattle.writer.specs.Demands.{Back, Again, newFile, Same, SameNumber, Numbered}
 use Rattle.writer.proofs.Settling.{settled-says}
 use Rattle.writer.proofs.Back.{content-back}
 use Rattle.writer.proofs.Room.{not-longer}
-
-abbrev sizeOf : List ℕ → BytePlace
-sizeOf w = record { 0 = length w }
 
 -- ---- what an answer says of the verdict
 module _ (m : Record) (w : List ℕ) (room : ℕ) where
@@ -56,13 +55,19 @@ pub content-written : (m : Record) (w : List ℕ) (room : ℕ) (n : BytePlace) �
     → contentOf (fileOf m w) ≡ holds (recordKept m) w
 content-written m w room n h e =
     let s = settled-says m w room (bytes-say m w room n e) in
-    content-back m w h (carried (s .rules)) (s .limit) ∙ ap (λ (v : Verdict). taken v (recordKept m) w) (record-taken (s .rules))
+    content-back m w h (no-fault (s .rules)) (s .limit) ∙ ap (λ (v : Verdict). taken v (recordKept m) w) (record-taken (s .rules))
+
+-- the length that an answer tells
+told-long : (v : Verdict) (n k : BytePlace) → answer v k ≡ Bytes n → n ≡ k
+told-long Accepted n k e = cc
+told-long (Refused r) n k e = let z : _≡_ {A = ℕ} 0 1 = cc in absurd (omega arith)
 
 pub back : Back
-unfolding Back reading soundIn
+unfolding Back reading soundIn writing
 back m w room n h e =
     let c = content-written m w room n h e in
     record {
+      long = told-long (settled m w room) n (sizeOf (fileOf m w)) e;
       verdict = ap (λ (x : Content). readingOf x .verdict) c;
       made = ap (λ (x : Content). readingOf x .made) c;
       sound = ap soundOf c;
@@ -71,7 +76,7 @@ back m w room n h e =
 -- ---- what is read is written again
 pub accepted : (m : Record) (w : List ℕ) (room : ℕ) → Writable m (sizeOf w) → length (fileOf m w) ≤ 1073741824 → length (fileOf m w) ≤ room
     → writing m w room ≡ Bytes (sizeOf (fileOf m w))
-unfolding writing settled writable
+unfolding writing settled beforeRoom
 accepted m w room k l r =
     let a = record-taken k in
     let b = le-leb (length (fileOf m w)) 1073741824 l in
@@ -90,6 +95,20 @@ again s e =
     let i = whole-limit s refl (h .walked) in
     record { written = λ room l. accepted m w room (content-rules s c) (omega arith) l; shorter = f }
 
+-- ---- and read again it is the same
+pub same-again : Same
+unfolding Same Again reading soundIn
+same-again s b e =
+    let m : Record = reading s .made in
+    let w : List ℕ = soundIn s in
+    let c : holds m w ≡ contentOf s = content-taken s refl e refl in
+    let n : ℕ = length (newFile s) in
+    let x : contentOf (newFile s) ≡ contentOf s =
+    content-written m w n (record { 0 = n }) (content-fits s c b) (again s e .written n (omega arith))
+    ∙ ap (λ (y : Record). holds y w) (content-kept-read s c)
+    ∙ c in
+    record { read = ap readingOf x; sound = ap soundOf x }
+
 -- ---- a refusal is the number that reading gives
 same : (q r : Refusal) → _≡_ {A = Verdict} (Refused q) (Refused r) → q ≡ r
 same q r e = cc
@@ -97,7 +116,7 @@ same q r e = cc
 -- within the limit, a refusal for something other than room is the rules'
 ruled : (m : Record) (w : List ℕ) (room : ℕ) (r : Refusal) → length (fileOf m w) ≤ 1073741824 → (r ≡ OutputTooSmall → ⊥)
     → settled m w room ≡ Refused r → recordVerdict m (sizeOf w) ≡ Refused r
-unfolding settled writable
+unfolding settled beforeRoom
 ruled m w room r l n = by (recordVerdict m (sizeOf w)) (leb (length (fileOf m w)) 1073741824) (leb (length (fileOf m w)) room) (le-leb (length (fileOf m w)) 1073741824 l)
   where
     by : (v : Verdict) (a b : Bool) → a ≡ true
@@ -123,9 +142,22 @@ same-number m w room r h k e = by (leb (length (fileOf m w)) 1073741824) refl
     by true t =
         let l = leb-true (length (fileOf m w)) 1073741824 t in
         let v = ruled m w room r l (k .room) (refused-says m w room r e) in
-        let c : Carried m (sizeOf w) =
-        record { samples = λ x. k .samples (same r FormatWrong (sym v ∙ x)); frames = λ x. k .frames (same r FactWrong (sym v ∙ x)) } in
+        let c : FaultSaid m (sizeOf w) =
+        record { format = λ x. k .format (same r FormatWrong (sym v ∙ x)); frames = λ x. k .frames (same r FactWrong (sym v ∙ x)) } in
         ap (λ (x : Content). readingOf x .verdict) (content-back m w h c l) ∙ taken-verdict (recordVerdict m (sizeOf w)) (recordKept m) w ∙ v
     by false t =
         let l = leb-false (length (fileOf m w)) 1073741824 t in
         reading-long (fileOf m w) l ∙ ap Refused (sym (k .limit l))
+
+-- ---- each demand is a row of the table
+and-row : (b : Bool) (r : Refusal) (u v : Verdict) → andThen (demand b r u) v ≡ demand b r (andThen u v)
+and-row true r u v = refl
+and-row false r u v = refl
+
+answer-row : (v : Verdict) (n : BytePlace) → writtenNumber (answer v n) ≡ verdictNumber v
+answer-row Accepted n = refl
+answer-row (Refused r) n = refl
+
+pub numbered : Numbered
+unfolding Numbered writing settled beforeRoom recordVerdict inOrder
+numbered m w room = answer-row (settled m w room) (sizeOf (fileOf m w)) ∙ simp (and-row, demand-row)

@@ -18,7 +18,7 @@ use Rattle.riff.proofs.Laying.{length-file}
 use Rattle.formats.specs.Format.{formatRule}
 use Rattle.tables.specs.declared.Playlist.{Playlist}
 use Rattle.rules.specs.declared.Record.{Record}
-use Rattle.writer.specs.File.{factPart, cuesPart, playsPart, partsOf, fileOf, opening, tablesOf, settled, answer, writing}
+use Rattle.writer.specs.File.{sizeOf, factPart, cuesPart, playsPart, partsOf, fileOf, opening, tablesOf, settled, answer, writing}
 use Rattle.writer.specs.declared.Written.the-variants.{Bytes}
 use Rattle.writer.specs.declared.Written.the-variants as written
 use Rattle.writer.proofs.Opening.{formOf, countOf}
@@ -124,6 +124,6 @@ module _ (m : Record) (w d : List ℕ) {v : Verdict} (e : v ≡ settled m w (len
 
   pub answer-refused : {r : Refusal} → v ≡ Refused r → written.Refused r ≡ writing m w (length d)
   unfolding writing
-  answer-refused f = ap (λ (x : Verdict). answer x (record { 0 = length (fileOf m w) })) (sym f ∙ e)
+  answer-refused f = ap (λ (x : Verdict). answer x (sizeOf (fileOf m w))) (sym f ∙ e)
 
 pub ruleset answering = (asked, answer-written, answer-refused)

@@ -18,7 +18,7 @@ use Rattle.riff.proofs.Laying.{length-laid}
 use Rattle.rules.specs.declared.Record.{Record}
 use Rattle.rules.specs.Rules.{recordVerdict, Writable}
 use Rattle.rules.proofs.Taken.{record-keeps}
-use Rattle.writer.specs.File.{partsOf, fileOf, andThen, writable, settled}
+use Rattle.writer.specs.File.{sizeOf, partsOf, fileOf, andThen, beforeRoom, settled}
 
 and-met : (u v : Verdict) → andThen u v ≡ Accepted → (u ≡ Accepted) × (v ≡ Accepted)
 and-met Accepted v e = (refl, e)
@@ -26,7 +26,7 @@ and-met (Refused r) v e = let z : _≡_ {A = ℕ} 0 1 = cc in absurd (omega arit
 
 module _ (m : Record) (w : List ℕ) (room : ℕ) where
   abbrev n : BytePlace
-  n = record { 0 = length w }
+  n = sizeOf w
 
   abbrev file : ℕ
   file = length (fileOf m w)
@@ -38,7 +38,7 @@ module _ (m : Record) (w : List ℕ) (room : ℕ) where
   roomed = demand (leb file room) OutputTooSmall Accepted
 
   settled-by : {v u : Verdict} → v ≡ recordVerdict m n → v ≡ u → settled m w room ≡ andThen (andThen u limited) roomed
-  unfolding settled writable
+  unfolding settled beforeRoom
   settled-by e f = ap (λ (x : Verdict). andThen (andThen x limited) roomed) (sym e ∙ f)
 
   pub longer : length w ≤ file
@@ -71,19 +71,19 @@ pub ruleset settling = (settle-ruled, settle-long, settle-limit, settle-room, se
 
 -- ---- what it says where the file is written
 pub record Settled (m : Record) (w : List ℕ) (room : ℕ) : Type 0 where
-  pub rules : Writable m (record { 0 = length w })
+  pub rules : Writable m (sizeOf w)
   pub limit : length (fileOf m w) ≤ 1073741824
   pub fits : length (fileOf m w) ≤ room
 
 pub settled-says : (m : Record) (w : List ℕ) (room : ℕ) → settled m w room ≡ Accepted → Settled m w room
-unfolding settled writable
+unfolding settled beforeRoom
 settled-says m w room e =
-    let p = and-met (writable m w) (roomed m w room) e in
+    let p = and-met (beforeRoom m w) (roomed m w room) e in
     let q = and-met (recordVerdict m (n m w room)) (limited m w room) (p .0) in
     let r = demand-met (leb (length (fileOf m w)) 1073741824) LengthOutOfRange Accepted (q .1) in
     let s = demand-met (leb (length (fileOf m w)) room) OutputTooSmall Accepted (p .1) in
     record {
-      rules = record-keeps m (record { 0 = length w }) (q .0);
+      rules = record-keeps m (sizeOf w) (q .0);
       limit = leb→le (length (fileOf m w)) 1073741824 (subst T (sym (r .0)) tt);
       fits = leb→le (length (fileOf m w)) room (subst T (sym (s .0)) tt);
     }

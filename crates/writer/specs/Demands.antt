@@ -1,29 +1,36 @@
 -- Demand 2 of written files, for every record, sound and room. `proofs/Demands.antt` proves each. Assumes nothing.
 use Prim.Native.Nat.{ℕ, _≤_, _<_}
 use mathlib.Core.Path.{_≡_}
-use mathlib.Core.Bool.{true}
+use mathlib.Core.Bool.{true, false, not, cond}
 use mathlib.Core.List.{List}
+use lib.Dec.{T, leb}
 use lib.ListN.{length}
+use lib.Pow.{areBytes}
 use Rattle.units.specs.declared.BytePlace.{BytePlace}
 use Rattle.units.specs.declared.Refusal.{Refusal}
 use Rattle.units.specs.declared.Refusal.the-variants.{LengthOutOfRange, FormatWrong, FactWrong, OutputTooSmall}
 use Rattle.units.specs.declared.Verdict.the-variants as verdict
-use Rattle.formats.specs.Frames.{needsFact}
+use Rattle.formats.specs.Format.{formatRule}
+use Rattle.formats.specs.Frames.{wholeBlocks, needsFact, framesRule}
+use Rattle.formats.specs.Bytes.{saidFormat}
+use Rattle.tables.specs.Cues.{cuesRule}
+use Rattle.tables.specs.Plays.{playsRule}
 use Rattle.rules.specs.declared.Record.{Record}
 use Rattle.rules.specs.Written.{recordKept, RecordFits}
 use Rattle.reader.specs.Content.{reading, soundIn}
 use Rattle.writer.specs.declared.Written.the-variants.{Bytes, Refused}
-use Rattle.writer.specs.File.{fileOf, writing}
+use Rattle.writer.specs.File.{sizeOf, fileOf, writing, writtenNumber}
 
--- ---- a written file reads back to the same record, zero past the counts, and to the sound handed over, byte for byte
-pub record ReadsBack (m : Record) (w : List ℕ) : Type 0 where
+-- ---- a written file, n bytes long, reads back to the same record, zero past the counts, and to the sound handed over, byte for byte
+pub record ReadsBack (m : Record) (w : List ℕ) (n : BytePlace) : Type 0 where
+  pub long : n ≡ sizeOf (fileOf m w)
   pub verdict : reading (fileOf m w) .verdict ≡ verdict.Accepted
   pub made : reading (fileOf m w) .made ≡ recordKept m
   pub sound : soundIn (fileOf m w) ≡ w
 
 unfoldable pub Back : Type 0
 Back =
-    (m : Record) (w : List ℕ) (room : ℕ) (n : BytePlace) → RecordFits m → writing m w room ≡ Bytes n → ReadsBack m w
+    (m : Record) (w : List ℕ) (room : ℕ) (n : BytePlace) → RecordFits m → writing m w room ≡ Bytes n → ReadsBack m w n
 
 -- ---- every record that reading gives is written with that file's sound, wherever there is room for the new file, which is not
 -- longer than the old one
@@ -33,18 +40,26 @@ newFile s = fileOf (reading s .made) (soundIn s)
 
 pub record Rewritten (s : List ℕ) : Type 0 where
   pub written : (room : ℕ) → length (newFile s) ≤ room
-      → writing (reading s .made) (soundIn s) room ≡ Bytes (record { 0 = length (newFile s) })
+      → writing (reading s .made) (soundIn s) room ≡ Bytes (sizeOf (newFile s))
   pub shorter : length (newFile s) ≤ length s
 
 unfoldable pub Again : Type 0
 Again = (s : List ℕ) → reading s .verdict ≡ verdict.Accepted → Rewritten s
+
+-- ---- what is read of a file of bytes, written and read again is the same: the record and the sound
+pub record SameAgain (s : List ℕ) : Type 0 where
+  pub read : reading (newFile s) ≡ reading s
+  pub sound : soundIn (newFile s) ≡ soundIn s
+
+unfoldable pub Same : Type 0
+Same = (s : List ℕ) → T (areBytes s) → reading s .verdict ≡ verdict.Accepted → SameAgain s
 
 -- ---- a refusal of `write` is the number that reading the bytes gives, where those bytes carry the fault
 
 -- a PCM file says neither its samples per block nor F; a lent buffer is no part of a file; and a file above the limit is refused
 -- for that before anything else
 pub record Carries (m : Record) (w : List ℕ) (r : Refusal) : Type 0 where
-  pub samples : r ≡ FormatWrong → m .format .tag ≡ 1 → m .format .samples ≡ 1
+  pub format : r ≡ FormatWrong → formatRule (saidFormat (m .format)) ≡ false
   pub frames : r ≡ FactWrong → needsFact (m .format) ≡ true
   pub room : r ≡ OutputTooSmall → ⊥
   pub limit : 1073741824 < length (fileOf m w) → r ≡ LengthOutOfRange
@@ -53,3 +68,17 @@ unfoldable pub SameNumber : Type 0
 SameNumber =
     (m : Record) (w : List ℕ) (room : ℕ) (r : Refusal) → RecordFits m → Carries m w r → writing m w room ≡ Refused r
     → reading (fileOf m w) .verdict ≡ verdict.Refused r
+
+-- ---- the number of an answer, in the order of checks and the numbers of document 01; 0 where the file is written
+unfoldable pub Numbered : Type 0
+Numbered =
+    (m : Record) (w : List ℕ) (room : ℕ)
+    → writtenNumber (writing m w room)
+    ≡ cond (not (formatRule (m .format))) 9
+    (cond (not (wholeBlocks (m .format) (sizeOf w))) 10
+    (cond (not (framesRule (m .format) (sizeOf w) (m .frames))) 11
+    (cond (not (cuesRule (m .cues) (m .frames))) 12
+    (cond (not (playsRule (m .playlist) (m .cues) (m .frames))) 13
+    (cond (not (leb (length (fileOf m w)) 1073741824)) 1
+    (cond (not (leb (length (fileOf m w)) room)) 14
+    0))))))

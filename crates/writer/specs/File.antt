@@ -50,7 +50,7 @@ partsOf m w =
 unfoldable pub fileOf : Record → List ℕ → List ℕ
 fileOf m w = fileBytes (piecesOf (partsOf m w))
 
--- its first bytes, up to the tables, and the tables
+-- what functions of the code put of it: its first bytes, up to the tables, and the tables
 unfoldable pub opening : ℕ → Format → Frames → List ℕ
 opening size f frames =
     riffBytes size ++ (pieceBytes (piece code.Format (formatBytes f)) ++ partBytes code.Fact (factPart f frames))
@@ -65,14 +65,18 @@ abbrev pub andThen : Verdict → Verdict → Verdict
 andThen verdict.Accepted v = v
 andThen (verdict.Refused r) v = verdict.Refused r
 
+-- so many bytes
+abbrev pub sizeOf : List ℕ → BytePlace
+sizeOf s = record { 0 = length s }
+
 -- 9 to 13, then 1
-unfoldable pub writable : Record → List ℕ → Verdict
-writable m w =
-    andThen (recordVerdict m (record { 0 = length w }))
+unfoldable pub beforeRoom : Record → List ℕ → Verdict
+beforeRoom m w =
+    andThen (recordVerdict m (sizeOf w))
     (demand (leb (length (fileOf m w)) 1073741824) LengthOutOfRange verdict.Accepted)
 
 unfoldable pub settled : Record → List ℕ → ℕ → Verdict
-settled m w room = andThen (writable m w) (demand (leb (length (fileOf m w)) room) OutputTooSmall verdict.Accepted)
+settled m w room = andThen (beforeRoom m w) (demand (leb (length (fileOf m w)) room) OutputTooSmall verdict.Accepted)
 
 -- ---- the answer, with room for so many bytes
 
@@ -81,7 +85,7 @@ answer verdict.Accepted n = Bytes n
 answer (verdict.Refused r) n = Refused r
 
 unfoldable pub writing : Record → List ℕ → ℕ → Written
-writing m w room = answer (settled m w room) (record { 0 = length (fileOf m w) })
+writing m w room = answer (settled m w room) (sizeOf (fileOf m w))
 
 -- a buffer d after it: the file from its start and then what it held, or all as it was
 abbrev pub holding : Written → List ℕ → List ℕ → List ℕ
