@@ -56,7 +56,7 @@ module _ (m : Record) (w : List ℕ) where
 
   module _ {size : ℕ} (e : size ≡ length (fileOf m w)) where
     abbrev first : List ℕ
-    first = opening (size - 8) (m .format) (m .frames)
+    first = opening size (m .format) (m .frames)
 
     file-runs : fileOf m w ≡ first ++ (tables ++ sound)
     unfolding fileOf opening fileBytes
@@ -68,15 +68,15 @@ module _ (m : Record) (w : List ℕ) where
         ∙ ap (λ (s : List ℕ). riffBytes (size - 8) ++ s) body-runs
         ∙ sym (append-assoc (riffBytes (size - 8)) (formOf (m .format) ++ countOf (m .format) (m .frames)) (tables ++ sound))
 
-    pub size-eight : 8 ≤ size
+    pub size-least : 12 ≤ size
     unfolding fileOf
-    size-eight = omega (arith, length-file (piecesOf (partsOf m w)))
+    size-least = omega (arith, length-file (piecesOf (partsOf m w)))
 
     module _ (d : List ℕ) (s : settled m w (length d) ≡ Accepted) where
       says : Settled m w (length d)
       says = settled-says m w (length d) s
 
-      pub size-fits : size - 8 < 4294967296
+      pub size-fits : size < 4294967296
       size-fits = omega (arith, says .limit)
 
       all-long : length (first ++ (tables ++ sound)) ≤ length d
@@ -109,7 +109,7 @@ module _ (m : Record) (w : List ℕ) (room : ℕ) (s : settled m w room ≡ Acce
   pub format-kept : formatRule (m .format) ≡ true
   format-kept = settled-says m w room s .rules .format
 
-pub ruleset filing = (size-eight, size-fits, opening-room, tables-room, sound-room, file-put, sound-limit, format-kept)
+pub ruleset filing = (size-least, size-fits, opening-room, tables-room, sound-room, file-put, sound-limit, format-kept)
 
 -- ---- the answer
 module _ (m : Record) (w d : List ℕ) {v : Verdict} (e : v ≡ settled m w (length d)) where

@@ -29,7 +29,7 @@ module _ (size : ℕ) (f : Format) (frames : Frames) where
 
   length-opening : length (opening size f frames) ≡ 12 + length (form ++ count)
   unfolding opening
-  length-opening = length-append (riffBytes size) (form ++ count) ∙ ap (λ (k : ℕ). k + length (form ++ count)) (length-riff size)
+  length-opening = length-append (riffBytes (size - 8)) (form ++ count) ∙ ap (λ (k : ℕ). k + length (form ++ count)) (length-riff (size - 8))
 
   pub riff-room : {m : ℕ} → length (opening size f frames) ≤ m → 12 ≤ m
   riff-room h = omega (arith, length-opening)
@@ -37,9 +37,10 @@ module _ (size : ℕ) (f : Format) (frames : Frames) where
   pub opening-end : {next end : ℕ} → next ≡ 12 + length form → end ≡ next + length count → end ≡ length (opening size f frames)
   opening-end a b = omega (arith, length-opening, length-append form count)
 
-  module _ {d e : List ℕ} (h : length (opening size f frames) ≤ length d) (p : Put d 0 (riffBytes size) e) where
+  -- the rooms do not depend on the number that R is
+  module _ {d e : List ℕ} (r : ℕ) (h : length (opening size f frames) ≤ length d) (p : Put d 0 (riffBytes r) e) where
     long : 12 + length (form ++ count) ≤ length e
-    long = let l = put-long p (omega (arith, length-riff size, length-opening)) in omega (arith, length-opening)
+    long = let l = put-long p (omega (arith, length-riff r, length-opening)) in omega (arith, length-opening)
 
     pub format-room : 12 + length form ≤ length e
     format-room = first-room form count 12 long
@@ -48,8 +49,10 @@ module _ (size : ℕ) (f : Format) (frames : Frames) where
       pub fact-room : next + length count ≤ length g
       fact-room = next-room form count long q a
 
-      pub opening-put : {z : List ℕ} → Put g next count z → Put d 0 (opening size f frames) z
-      unfolding opening
-      opening-put r = put-next p (both-put form count long q a r) (omega (arith, length-riff size)) (omega (arith, length-opening))
+  pub opening-put : {d e g z : List ℕ} {next : ℕ} → length (opening size f frames) ≤ length d → Put d 0 (riffBytes (size - 8)) e
+      → Put e 12 form g → next ≡ 12 + length form → Put g next count z → Put d 0 (opening size f frames) z
+  unfolding opening
+  opening-put h p q a r =
+      put-next p (both-put form count (long (size - 8) h p) q a r) (omega (arith, length-riff (size - 8))) (omega (arith, length-opening))
 
 pub ruleset openings = (riff-room, opening-end, format-room, fact-room, opening-put)

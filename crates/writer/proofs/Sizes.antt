@@ -1,6 +1,6 @@
 -- How long a chunk and the file are, in the words of the code. Assumes nothing.
 use mathlib.Core.Path.{_≡_, refl, sym, _∙_}
-use mathlib.Core.Bool.{Bool, true, false}
+use mathlib.Core.Bool.{Bool, true, false, cond}
 use mathlib.Core.List.{List}
 use Prim.Native.Nat.{ℕ, _+_, _%_, _≤_, _<_}
 use native.Mathlib.Omega.{arith}
@@ -29,12 +29,15 @@ module _ (p : Part) where
   unfolding extentIf
   written {n} e f g = simp (e, ← f) (omega arith)
 
-module _ (f : Format) (frames : Frames) {a : Bool} (e : a ≡ needsFact f) where
-  pub fact-size : a ≡ true → 12 ≡ extentIf (factPart f frames)
-  fact-size t = written (factPart f frames) (sym e ∙ t) (sym (fact-long frames)) refl
+pub fact-size : (f : Format) {a : Bool} → a ≡ needsFact f → a ≡ true → _≡_ {A = ℕ} 12 (cond (needsFact f) 12 0)
+fact-size f e t = simp (sym e ∙ t)
 
-  pub fact-none : a ≡ false → 0 ≡ extentIf (factPart f frames)
-  fact-none t = left-out (factPart f frames) (sym e ∙ t)
+pub fact-none : (f : Format) {a : Bool} → a ≡ needsFact f → a ≡ false → _≡_ {A = ℕ} 0 (cond (needsFact f) 12 0)
+fact-none f e t = simp (sym e ∙ t)
+
+fact-extent : (f : Format) (frames : Frames) → cond (needsFact f) 12 0 ≡ extentIf (factPart f frames)
+unfolding extentIf
+fact-extent f frames = rw (fact-long frames) refl
 
 module _ (c : Cues) where
   pub cues-none : c .count < 1 → 0 ≡ extentIf (cuesPart c)
@@ -55,8 +58,11 @@ pub ruleset sizes = (fact-size, fact-none, cues-none, cues-size, plays-none, pla
 -- ---- the file
 module _ (m : Record) (w : List ℕ) where
   pub file-size : {fmt fact cue plst : ℕ}
-      → fmt ≡ length (formatBytes (m .format)) → fmt % 2 ≡ 0 → fact ≡ extentIf (factPart (m .format) (m .frames))
+      → fmt ≡ length (formatBytes (m .format)) → fmt % 2 ≡ 0 → fact ≡ cond (needsFact (m .format)) 12 0
       → cue ≡ extentIf (cuesPart (m .cues)) → plst ≡ extentIf (playsPart (m .playlist))
       → 12 + 8 + fmt + fact + cue + plst + 8 + length w + length w % 2 ≡ length (fileOf m w)
   unfolding fileOf partsOf
-  file-size a b c d e = let l = length-laid (partsOf m w) in omega arith
+  file-size a b c d e =
+      let l = length-laid (partsOf m w) in
+      let f = fact-extent (m .format) (m .frames) in
+      omega arith

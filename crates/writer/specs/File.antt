@@ -1,5 +1,5 @@
 -- The file of a record and its sound, the verdict on writing it, and what the lent buffer then holds. Assumes nothing.
-use Prim.Native.Nat.{ℕ}
+use Prim.Native.Nat.{ℕ, _-_}
 use mathlib.Core.List.{List, _++_}
 use lib.Dec.{leb}
 use lib.ListN.{length}
@@ -50,10 +50,10 @@ partsOf m w =
 unfoldable pub fileOf : Record → List ℕ → List ℕ
 fileOf m w = fileBytes (piecesOf (partsOf m w))
 
--- what functions of the code put of it: its first bytes, up to the tables, and the tables
+-- what functions of the code put of it: of a file of so many bytes those up to the tables, and the tables
 unfoldable pub opening : ℕ → Format → Frames → List ℕ
 opening size f frames =
-    riffBytes size ++ (pieceBytes (piece code.Format (formatBytes f)) ++ partBytes code.Fact (factPart f frames))
+    riffBytes (size - 8) ++ (pieceBytes (piece code.Format (formatBytes f)) ++ partBytes code.Fact (factPart f frames))
 
 abbrev pub tablesOf : Cues → Playlist → List ℕ
 tablesOf c p = partBytes code.Cue (cuesPart c) ++ partBytes code.Playlist (playsPart p)

@@ -12,13 +12,14 @@ use units::Frames;
 use units::Refusal;
 use units::Verdict;
 ghost use mathlib.Core.Path.{_≡_};
-ghost use mathlib.Core.Bool.{true};
+ghost use mathlib.Core.Bool.{true, cond};
 ghost use Prim.Native.Nat.{_+_, _≤_};
 ghost use lib.ListN.{length};
 ghost use Rattle.codes.specs.declared.Code.the-variants as code;
 ghost use Rattle.little.specs.Writing.{Put, front};
 ghost use Rattle.units.specs.declared.Verdict.the-variants as verdict;
 ghost use Rattle.formats.specs.Format.{formatRule};
+ghost use Rattle.formats.specs.Frames.{needsFact};
 ghost use Rattle.formats.specs.Bytes.{formatBytes};
 ghost use Rattle.riff.specs.Laying.{piece, padBytes, pieceBytes, partBytes, extentIf};
 ghost use Rattle.writer.specs.File.{factPart, cuesPart, playsPart, fileOf, opening, tablesOf, settled, writing, holding};
@@ -32,8 +33,8 @@ pub enum Written {
 // ---- how long the file is
 
 // The bytes of the `fact`, with its head; none where it is left out.
-fn fact_extent(format: Format, frames: Frames) -> usize
-    ensures { λ r. ⌜ (r ≡ extentIf (factPart format frames)) × (r ≤ 12) ⌝ }
+fn fact_extent(format: Format) -> usize
+    ensures { λ r. ⌜ (r ≡ cond (needsFact format) 12 0) × (r ≤ 12) ⌝ }
 {
     if formats::needs_fact(format) {
         return 12;
@@ -67,11 +68,10 @@ fn file_size(made: Record, sound: &[u8]) -> usize
     ensures { λ r. ⌜ r ≡ length (fileOf made (now (sound .entry))) ⌝ }
 {
     let format = made.format;
-    let frames = made.frames;
     let cues = made.cues;
     let playlist = made.playlist;
     let fmt = formats::format_size(format);
-    let fact = fact_extent(format, frames);
+    let fact = fact_extent(format);
     let cue = cues_extent(cues);
     let plst = plays_extent(playlist);
     let n = sound.len();
@@ -86,6 +86,7 @@ fn settle(made: Record, sound: &[u8], room: usize) -> Verdict
     let Verdict::Accepted = ruled else {
         return ruled;
     };
+    // So that the sum in `file_size` fits.
     if riff::LIMIT < sound.len() {
         return Verdict::Refused(Refusal::LengthOutOfRange);
     }
@@ -179,14 +180,15 @@ fn put_sound(out: &mut [u8], at: usize, sound: &[u8])
 
 // ---- the file
 
-// Puts what stands before the tables: the first twelve bytes, `fmt ` and `fact`.
+// Puts what stands before the tables of a file of some size: the first twelve bytes, `fmt ` and `fact`.
 fn put_opening(out: &mut [u8], size: u32, format: Format, frames: Frames) -> usize
     requires { ⌜ formatRule format ≡ true ⌝ }
+    requires { ⌜ 12 ≤ size ⌝ }
     requires { ⌜ length (opening size format frames) ≤ length (now out) ⌝ }
     ensures { λ r. ⌜ (r ≡ length (opening size format frames))
         × Put (now (out .entry)) 0 (opening size format frames) (now (out .exit)) ⌝ }
 {
-    riff::put_riff(out, size);
+    riff::put_riff(out, size - 8);
     let next = put_format(out, 12, format);
     put_fact(out, next, format, frames)
 }
@@ -212,7 +214,7 @@ fn put_file(made: Record, sound: &[u8], out: &mut [u8]) -> BytePlace
     let cues = made.cues;
     let playlist = made.playlist;
     let size = file_size(made, sound);
-    let tables = put_opening(out, (size - 8) as u32, format, frames);
+    let tables = put_opening(out, size as u32, format, frames);
     let data_at = put_tables(out, tables, cues, playlist);
     put_sound(out, data_at, sound);
     BytePlace(size)

@@ -7,5 +7,5 @@ use Rattle.writer.proofs.put_opening.Tie as tie
 pub put-opening-spec : {M : Type 1} → statement M
 put-opening-spec =
     tie.close
-    (tie.spec (λ c κs. search (needs, openings)) (λ c κs. search (needs, openings))
+    (tie.spec (λ c. search needs) (λ c κs. search (needs, openings)) (λ c κs. search (needs, openings))
     (λ c κs. search (needs, openings)) (λ c. search needs) (λ c. search (needs, openings)))
