@@ -54,8 +54,8 @@ module _ (m : Record) (w : List ℕ) (room : ℕ) where
       settle-long h = let l : leb file 1073741824 ≡ false = lt-leb file 1073741824 (omega (arith, longer)) in sym (settled-by e f ∙ simp l)
 
       module _ {size : ℕ} (g : size ≡ file) where
-        pub settle-limit : 1073741824 < size → Refused LengthOutOfRange ≡ settled m w room
-        settle-limit h = let l : leb file 1073741824 ≡ false = lt-leb file 1073741824 (omega arith) in sym (settled-by e f ∙ simp l)
+        pub settle-limit : (k : ℕ) → k < size → 1073741824 ≤ k → Refused LengthOutOfRange ≡ settled m w room
+        settle-limit k h i = let l : leb file 1073741824 ≡ false = lt-leb file 1073741824 (omega arith) in sym (settled-by e f ∙ simp l)
 
         module _ (h : size ≤ 1073741824) where
           l : leb file 1073741824 ≡ true
