@@ -10,6 +10,7 @@ import second_ima
 from second_reader import Refused, mixed
 
 LOW, HIGH = -32768, 32767
+TONE = [0, 30, 100, 250, 120, -40, -200, -1000, 2000, -300, 4000, 3000, 20, 19, 18, 500, 16, -5000, 14, 9000]
 
 
 def coding(label, sound, channels=1, align=8, room=64):
@@ -46,11 +47,10 @@ def examples():
 
 def sounds():
     """Lengths, chased samples and channels."""
-    tone = [0, 30, 100, 250, 120, -40, -200, -1000, 2000, -300, 4000, 3000, 20, 19, 18, 500, 16, -5000, 14, 9000]
     for frames in (0, 1, 8, 9, 10, 17, 18, 19):
-        yield coding(f'{frames} frames, 9 a block', tone[:frames])
+        yield coding(f'{frames} frames, 9 a block', TONE[:frames])
     for frames in (0, 1, 8, 9, 10):
-        yield coding(f'{frames} frames of two channels, 9 a block', tone[:2 * frames], 2, 16)
+        yield coding(f'{frames} frames of two channels, 9 a block', TONE[:2 * frames], 2, 16)
     yield coding('two unlike channels, 17 a block', [0, 5, 9, 5, HIGH, 4, LOW, 3, 7, -80] * 2, 2, 24)
     yield coding('right alone is chased', [0, 0, 1, 900, 2, 900, 3, 900], 2, 16)
     yield coding('left alone is chased', [0, 0, 900, 1, 900, 2, 900, 3], 2, 16)

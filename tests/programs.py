@@ -2,7 +2,8 @@
 """Runs the programs, as `rt` has built them, on input that their stored test does not have.
 
     tests/programs.py [COUNT [SEED]]       after `rt check` or `rt ci`; COUNT generated files are read,
-                                           and a tenth as many sounds coded, files decoded and records written
+                                           and a tenth as many sounds coded, files decoded, records written,
+                                           approval copies made and files written again
 """
 import os
 import pathlib
@@ -10,26 +11,30 @@ import platform
 import shutil
 import subprocess
 import sys
+import tempfile
 
+import approval_copies
 import ima_sounds
 import many_files
+import other_programs
 import second_reader
 import sound_files
 import wave_files
 import writer_records
+import written_files
 
 ROOT = pathlib.Path(__file__).resolve().parent.parent
 KIT = pathlib.Path(os.environ.get('RATTLE_HOME') or pathlib.Path(shutil.which('rt')).resolve().parent.parent)
 
 
-def run(name, **options):
-    """What a program writes; on another processor than x86-64 the kit's emulator runs it."""
+def run(name, *words, **options):
+    """What a program writes with these arguments; on another processor than x86-64 the kit's emulator runs it."""
     tools = KIT / 'on' / platform.machine() / 'toolchain'
     emulator = tools / 'bin' / 'qemu-x86_64'
     command = [tools / 'lib' / 'ld-linux-x86-64.so.2', '--library-path', tools / 'lib', ROOT / 'target' / 'bin' / name]
     if emulator.exists():
         command.insert(0, emulator)
-    return subprocess.run(command, stdout=subprocess.PIPE, check=True, **options).stdout.decode()
+    return subprocess.run([*command, *words], stdout=subprocess.PIPE, check=True, **options).stdout.decode()
 
 
 def long_file(n):
@@ -82,13 +87,34 @@ def batches(vectors):
     yield data, lines
 
 
+def differences(wrote, lines):
+    """The lines that a program wrote and those that it must write, where they differ."""
+    yield from (pair for pair in zip(wrote, lines) if pair[0] != pair[1])
+    if len(wrote) != len(lines):
+        yield f'{len(wrote)} lines', f'{len(lines)} lines'
+
+
 def unlike(name, vectors):
     """The lines on which a program and the second reader, coder, decoder or writer differ."""
     for data, lines in batches(vectors):
-        wrote = run(name, input=data).splitlines()
-        yield from (pair for pair in zip(wrote, lines) if pair[0] != pair[1])
-        if len(wrote) != len(lines):
-            yield f'{len(wrote)} lines', f'{len(lines)} lines'
+        yield from differences(run(name, input=data).splitlines(), lines)
+
+
+def unlike_again(files):
+    """The lines on which `written_other` and the second reader and writer differ; it takes names of files."""
+    named = {str(place): file for place, file in enumerate(files)}
+    with tempfile.TemporaryDirectory() as folder:
+        for name, file in named.items():
+            pathlib.Path(folder, name).write_bytes(file)
+        wrote = run('written_other', *named, cwd=folder).splitlines()
+    return differences(wrote, [line for name, file in named.items() for line in (name, *written_files.again(file))])
+
+
+def files_again(count, seed):
+    """The files of other programs, the border files of the reader, and generated ones."""
+    yield from (path.read_bytes() for path in sorted(other_programs.DATA.glob('*.wav')))
+    yield from (file for _, file, _ in wave_files.all_files())
+    yield from many_files.files(count, seed)
 
 
 def main(count=20000, seed=1):
@@ -96,9 +122,12 @@ def main(count=20000, seed=1):
     wrong = [f'wave_list on {label} wrote {wrote!r}' for label, wrote, expected in listings() if wrote != expected]
     generated = {'reader_vectors': read_files(count, seed), 'ima_vectors': ima_sounds.many(count // 10, seed),
                  'sound_vectors': sound_files.many(count // 10, seed),
-                 'writer_vectors': writer_records.many(count // 10, seed)}
+                 'writer_vectors': writer_records.many(count // 10, seed),
+                 'approval_vectors': approval_copies.many(count // 10, seed)}
+    unlikes = {name: unlike(name, vectors) for name, vectors in generated.items()}
+    unlikes['written_other'] = unlike_again(files_again(count // 10, seed))
     wrong += [f'{name} wrote {wrote!r}, in Python it is {expected!r}'
-              for name, vectors in generated.items() for wrote, expected in unlike(name, vectors)]
+              for name, pairs in unlikes.items() for wrote, expected in pairs]
     for line in wrong[:20]:
         print(f'tests/programs.py: {line}')
     return 1 if wrong else 0

@@ -10,6 +10,7 @@ import pathlib
 import struct
 import sys
 
+import approval_copies
 import ima_sounds
 import other_programs
 import second_ima
@@ -140,6 +141,11 @@ def writer():
     return joined(writer_records.all_vectors())
 
 
+def approval():
+    """The sounds of tests/approval_copies.py."""
+    return joined(approval_copies.all_vectors())
+
+
 def ima_other():
     """libsndfile's blocks of each sound; the chased samples by the second coder."""
     names, lines = [], []
@@ -187,14 +193,15 @@ def sound_other():
 
 
 def written_other():
-    """The files of tests/written_files.py, which must come out as they stand."""
+    """The files of tests/written_files.py, which must come out as they stand, and files of other programs."""
     files = list(written_files.expected())
     return b'', ''.join(f'{line}\n' for name, lines in files for line in (name, *lines)), [name for name, _ in files]
 
 
 def programs():
     """For each program its standard input, its arguments and what it must print."""
-    made = {f'{make.__name__}_vectors': (*make(), None) for make in (units, little, samples, reader, ima, sound, writer)}
+    makers = units, little, samples, reader, ima, sound, writer, approval
+    made = {f'{make.__name__}_vectors': (*make(), None) for make in makers}
     made['wave_list'] = wave_files.example(), '\n'.join(wave_files.EXAMPLE) + '\n', None
     others = list(other_programs.expected())
     made['other_programs'] = b'', ''.join(f'{name}\n{text}' for name, text in others), [name for name, _ in others]

@@ -15,8 +15,10 @@ import re
 import struct
 import sys
 
+import other_programs
 import second_ima
 import second_microsoft
+import second_reader
 import second_sound
 import second_writer
 from other_programs import TAGS, ffmpeg, one
@@ -26,6 +28,19 @@ from second_writer import Record, samples_in
 DATA = pathlib.Path(__file__).resolve().parent.parent / 'crates' / 'written_other' / 'data'
 ODD = "*** 'data' chunk should be an even number of bytes in length."
 IMA, MICROSOFT = 17, 2
+
+# Files of other_programs/data that are read and written again, and how they come out. `rt` runs a program on its own
+# data/ alone, so data/others has these few once more; tests/programs.py takes all of them from where they stand.
+OTHERS = {
+    # The title is left out, and the average is worked out, where ffmpeg writes 16,000 whatever the format.
+    'ffmpeg-microsoft-stereo-title.wav': 'other bytes',
+    'sndfile-pcm16-mono-cues.wav': 'same bytes',
+    # The title stands behind sound of an odd length.
+    'sndfile-pcm8-mono-odd-title-after.wav': 'other bytes',
+    # sox rounds the average up.
+    'sox-ima-mono-empty.wav': 'other bytes',
+    'sox-rifx-refused.wav': 'refused 2',
+}
 
 
 def tone(frames, channels):
@@ -184,6 +199,31 @@ def said(report):
     yield 'heard', (parts['heard'].split()[0],)
 
 
+def again(file):
+    """What must be printed of a file that is read and written again, by the second reader and the second writer."""
+    try:
+        form, frames, cues, plays, _, sound = second_reader.read(file)
+    except second_reader.Refused as refusal:
+        return [f'refused {refusal.args[0]}']
+    made = second_writer.write(Record(form, frames, len(cues), cues, len(plays), plays), sound, 65536)
+    return [f'bytes {len(made)} mixed {mixed(made)}', 'same bytes' if made == file else 'other bytes']
+
+
+def others():
+    """Yields the name of each file of another program and what must be printed of it."""
+    kept = {path.name for path in (DATA / 'others').iterdir()}
+    if kept != OTHERS.keys():
+        raise ValueError(f'other files in {DATA.name}/others: {sorted(kept)}')
+    for name, said in OTHERS.items():
+        file = (DATA / 'others' / name).read_bytes()
+        if file != (other_programs.DATA / name).read_bytes():
+            raise ValueError(f'{name} is not as it stands in other_programs')
+        lines = again(file)
+        if lines[-1] != said:
+            raise ValueError(f'{name}: the table says {said}, the second reader and writer {lines}')
+        yield f'others/{name}', lines
+
+
 def expected():
     """Yields the name of each file and what `written_other` must print of it; the files and reports are as they must be."""
     made = all_files()
@@ -200,6 +240,7 @@ def expected():
             if meant != told:
                 raise ValueError(f'{name}: it must be {meant}, the programs say {told}')
         yield name, [f'bytes {len(file)} mixed {mixed(file)}', 'same bytes']
+    yield from others()
 
 
 def main(words):

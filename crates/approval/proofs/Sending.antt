@@ -87,7 +87,7 @@ module _ (s : List ℤ) (c rate a : ℕ) (w : Codable c a) where
       let m = recordFor s c rate a in
       let n : _≡_ {A = ℕ} 17 1 → ⊥ = λ e. omega arith in
       let l = file-size m bytes (format-ima-long (m .format) n refl) refl
-      (fact-size (m .format) (m .frames) {a = true} refl refl) (cues-none (m .cues) (omega arith))
+      (fact-size (m .format) {a = true} refl refl) (cues-none (m .cues) (omega arith))
       (plays-none (m .playlist) (omega arith)) in
       omega arith
 

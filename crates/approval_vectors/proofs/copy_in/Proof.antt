@@ -1,0 +1,11 @@
+-- The samples are tested, so the part lent is as long as it says.
+use lib.Seq.{length-take-le}
+use borrow.Author.Needs.{needs}
+use Rattle.approval_vectors.proofs.copy_in.Statement.{statement}
+use Rattle.approval_vectors.proofs.copy_in.Tie as tie
+
+pub copy-in-spec : {M : Type 1} → statement M
+copy-in-spec =
+    tie.close
+    (tie.spec (λ c. search needs) (λ c. search needs) (λ c. search (needs, length-take-le)) (λ c κs. search needs)
+    (λ c. search needs))
