@@ -62,9 +62,9 @@ pub record Copy (s : List ℤ) (c a : ℕ) (told : Written) (file : List ℕ) (r
 -- record of the copy
 unfoldable pub Approved : Type 0
 Approved =
-    (s : List ℤ) (c rate a room most : ℕ) (w : Written) (file : List ℕ) → Sixteen s → encoding s c a room ≡ Blocks w
+    (s : List ℤ) (c rate a room most : ℕ) (told : Written) (file : List ℕ) → Sixteen s → encoding s c a room ≡ Blocks told
     → contentOf file ≡ holds (recordFor s c rate a) (encodedBytes c a s)
-    → length s ≤ most → Copy s c a w file most
+    → length s ≤ most → Copy s c a told file most
 
 -- ---- the whole way: a sound of 16-bit samples is encoded as IMA blocks, the blocks are written as a file under the record of
 -- the copy, and that file is decoded: F frames come back, and demand 3 holds of them
