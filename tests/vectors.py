@@ -7,6 +7,7 @@
 Nothing here is taken from a run of the programs.
 """
 import pathlib
+import string
 import struct
 import sys
 
@@ -82,9 +83,10 @@ def little():
         buffer[at:at + len(piece)] = piece
         lines.append('buffer' + hexed(buffer))
     # a copy takes 64 bytes at a turn
-    for n in (63, 64, 65, 128, 129, 150):
-        run = bytes(i * 37 % 251 for i in range(n))
-        lines.append('buffer' + hexed(b'\xaa' * 5 + run + b'\xaa' * (155 - n)))
+    letters = string.ascii_lowercase + string.digits + string.ascii_uppercase + '-+'
+    run = (letters + letters[::-1] + letters).encode()
+    for copied in (run[:63], run[:64], run[:64] + b'.', run[:128], run[:128] + b'.', run[:150]):
+        lines.append('buffer' + hexed(b'\xaa' * 5 + copied + b'\xaa' * (155 - len(copied))))
     return data, '\n'.join(lines) + '\n'
 
 

@@ -78,23 +78,10 @@ fn each_place(bytes: &[u8]) {
     anywhere(bytes, 18446744073709551615);
 }
 
-// A run of bytes, each other than the next.
-fn run() -> [u8; 150] {
-    let mut bytes = [0u8; 150];
-    for i in 0..150 {
-        bytes[i] = (i * 37 % 251) as u8;
-    }
-    bytes
-}
-
-// The first n bytes of the run in a buffer of their own.
-fn long_copy(n: usize) {
-    let bytes = run();
-    if bytes.len() < n {
-        return;
-    }
+// A run of bytes in a buffer of its own.
+fn copy(bytes: &[u8]) {
     let mut out = [170u8; 160];
-    put_bytes(&mut out, 5, &bytes[..n]);
+    put_bytes(&mut out, 5, bytes);
 }
 
 fn main() {
@@ -109,10 +96,16 @@ fn main() {
     put_u16(&mut out, 8, 32768);
     put_u16(&mut out, 1, 258);
     put_bytes(&mut out, 0, b"\x00\xff\x01\x80\x7f\x02\x03\x04\x05\x06");
-    long_copy(63);
-    long_copy(64);
-    long_copy(65);
-    long_copy(128);
-    long_copy(129);
-    long_copy(150);
+    copy(b"abcdefghijklmnopqrstuvwxyz0123456789ABCDEFGHIJKLMNOPQRSTUVWXYZ-");
+    copy(b"abcdefghijklmnopqrstuvwxyz0123456789ABCDEFGHIJKLMNOPQRSTUVWXYZ-+");
+    copy(b"abcdefghijklmnopqrstuvwxyz0123456789ABCDEFGHIJKLMNOPQRSTUVWXYZ-+.");
+    copy(
+        b"abcdefghijklmnopqrstuvwxyz0123456789ABCDEFGHIJKLMNOPQRSTUVWXYZ-++-ZYXWVUTSRQPONMLKJIHGFEDCBA9876543210zyxwvutsrqponmlkjihgfedcba",
+    );
+    copy(
+        b"abcdefghijklmnopqrstuvwxyz0123456789ABCDEFGHIJKLMNOPQRSTUVWXYZ-++-ZYXWVUTSRQPONMLKJIHGFEDCBA9876543210zyxwvutsrqponmlkjihgfedcba.",
+    );
+    copy(
+        b"abcdefghijklmnopqrstuvwxyz0123456789ABCDEFGHIJKLMNOPQRSTUVWXYZ-++-ZYXWVUTSRQPONMLKJIHGFEDCBA9876543210zyxwvutsrqponmlkjihgfedcbaabcdefghijklmnopqrstuv",
+    );
 }
