@@ -20,7 +20,7 @@ unfoldable pub entryBytes : {A : Type 0} → (A → List ℕ) → List A → Lis
 entryBytes bytes [] = []
 entryBytes bytes (e ∷ es) = bytes e ++ entryBytes bytes es
 
--- "junk past the count is no part": the entries are the first of a list that has room for 64
+-- the room past the count is no part of it: the entries are the first of a list that has room for 64
 unfoldable pub tableBytes : {A : Type 0} → (A → List ℕ) → ℕ → List A → List ℕ
 tableBytes bytes count list = bytesOf 4 count ++ entryBytes bytes (take (held count) list)
 

@@ -60,7 +60,7 @@ tablesOf c p = partBytes code.Cue (cuesPart c) ++ partBytes code.Playlist (plays
 
 -- ---- the verdict: 9 to 13, a file above the limit with 1, then 14
 
--- what a verdict leaves to another
+-- two verdicts in their order: the first that refuses decides
 abbrev pub andThen : Verdict → Verdict → Verdict
 andThen verdict.Accepted v = v
 andThen (verdict.Refused r) v = verdict.Refused r
