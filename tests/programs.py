@@ -3,7 +3,7 @@
 
     tests/programs.py [COUNT [SEED]]       after `rt check` or `rt ci`; COUNT generated files are read,
                                            and a tenth as many sounds coded, files decoded, records written,
-                                           approval copies made and files written again
+                                           songs added, approval copies made and files written again
 """
 import os
 import pathlib
@@ -18,6 +18,7 @@ import ima_sounds
 import many_files
 import other_programs
 import second_reader
+import side_files
 import sound_files
 import wave_files
 import writer_records
@@ -95,7 +96,7 @@ def differences(wrote, lines):
 
 
 def unlike(name, vectors):
-    """The lines on which a program and the second reader, coder, decoder or writer differ."""
+    """The lines on which a program and the second reader, coder, decoder, writer or way to add differ."""
     for data, lines in batches(vectors):
         yield from differences(run(name, input=data).splitlines(), lines)
 
@@ -123,6 +124,7 @@ def main(count=20000, seed=1):
     generated = {'reader_vectors': read_files(count, seed), 'ima_vectors': ima_sounds.many(count // 10, seed),
                  'sound_vectors': sound_files.many(count // 10, seed),
                  'writer_vectors': writer_records.many(count // 10, seed),
+                 'side_vectors': side_files.many(count // 10, seed),
                  'approval_vectors': approval_copies.many(count // 10, seed)}
     unlikes = {name: unlike(name, vectors) for name, vectors in generated.items()}
     unlikes['written_other'] = unlike_again(files_again(count // 10, seed))

@@ -17,6 +17,7 @@ import other_programs
 import second_ima
 import second_reader
 import second_sound
+import side_files
 import sound_files
 import wave_files
 import writer_records
@@ -143,6 +144,11 @@ def writer():
     return joined(writer_records.all_vectors())
 
 
+def side():
+    """The sides and songs of tests/side_files.py."""
+    return joined(side_files.all_vectors())
+
+
 def approval():
     """The sounds of tests/approval_copies.py."""
     return joined(approval_copies.all_vectors())
@@ -202,7 +208,7 @@ def written_other():
 
 def programs():
     """For each program its standard input, its arguments and what it must print."""
-    makers = units, little, samples, reader, ima, sound, writer, approval
+    makers = units, little, samples, reader, ima, sound, writer, side, approval
     made = {f'{make.__name__}_vectors': (*make(), None) for make in makers}
     made['wave_list'] = wave_files.example(), '\n'.join(wave_files.EXAMPLE) + '\n', None
     others = list(other_programs.expected())

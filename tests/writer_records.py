@@ -53,15 +53,20 @@ def entry(label, record, sound, room):
     return struct.pack('<10H4I', *words) + label.encode() + cues + plays + sound
 
 
+def answer_lines(answer, room):
+    """What must be printed of an answer, a file or the number of a refusal, and of the lent buffer."""
+    if isinstance(answer, int):
+        return [f'refused {answer}', f'rest {room} untouched']
+    shown = 'file' + hexed(answer) if len(answer) <= 128 else f'mixed {mixed(answer)}'
+    return [f'bytes {len(answer)}', shown, f'rest {room - len(answer)} untouched']
+
+
 def vector(label, record, sound, room):
     """The entry, and the lines that `writer_vectors` must print of it."""
     second_writer.check(record, sound)
     answer = second_writer.write(record, sound, room)
-    made = entry(label, record, sound, room)
-    if isinstance(answer, int):
-        return made, [label, f'refused {answer}', f'rest {room} untouched']
-    shown = 'file' + hexed(answer) if len(answer) <= 128 else f'mixed {mixed(answer)}'
-    return made, [label, f'bytes {len(answer)}', shown, f'rest {room - len(answer)} untouched', 'reads back']
+    more = [] if isinstance(answer, int) else ['reads back']
+    return entry(label, record, sound, room), [label, *answer_lines(answer, room), *more]
 
 
 def writing(label, said, form, sound=8, frames=None, cues=(), plays=(), cue_count=None, play_count=None, room=None):

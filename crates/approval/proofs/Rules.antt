@@ -17,7 +17,7 @@ use Rattle.units.specs.declared.Frames.{Frames}
 use Rattle.formats.specs.Format.{shared, blocked, imaRule, formatRule}
 use Rattle.formats.specs.Frames.{wholeBlocks, blocksIn, countFits, framesRule}
 use Rattle.formats.proofs.Counts.{count-empty, count-is, frames-counted}
-use Rattle.formats.proofs.Taken.{by-eqb}
+use Rattle.lists.proofs.Laws.{by-eqb}
 use Rattle.tables.specs.Tables.{held}
 use Rattle.tables.specs.Cues.{namesIn, placesIn, cuesRule}
 use Rattle.tables.specs.Plays.{allPlayable, playsRule}

@@ -12,7 +12,8 @@ use Rattle.units.specs.declared.Frames.{Frames}
 use Rattle.formats.specs.declared.Format.{Format}
 use Rattle.formats.specs.Format.{byTag, samplesIn, formatOf, formatRule}
 use Rattle.formats.specs.Bytes.{averageOf, sharedBytes, extensionBytes, coefficientBytes, formatBytes, factBytes, saidFormat, FormatFits}
-use Rattle.formats.proofs.Taken.{by-eqb, by-format}
+use Rattle.lists.proofs.Laws.{by-eqb}
+use Rattle.formats.proofs.Taken.{by-format}
 use Rattle.formats.proofs.Bounds.{taken-fits}
 use Rattle.formats.proofs.Lengths.{bytes-pcm, bytes-ima, bytes-microsoft}
 

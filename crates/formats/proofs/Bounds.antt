@@ -10,7 +10,8 @@ use Rattle.formats.specs.declared.Format.{Format}
 use Rattle.formats.specs.Format.{formatRule}
 use Rattle.formats.specs.Frames.{blocksIn, framesRule}
 use Rattle.formats.specs.Bytes.{FormatFits}
-use Rattle.formats.proofs.Taken.{by-eqb, by-format, taken-some, taken-two, taken-rate, taken-bits, taken-eight, taken-sixteen, frames-most}
+use Rattle.lists.proofs.Laws.{by-eqb}
+use Rattle.formats.proofs.Taken.{by-format, taken-some, taken-two, taken-rate, taken-bits, taken-eight, taken-sixteen, frames-most}
 
 module _ (f : Format) (e : formatRule f ≡ true) where
   pub taken-most : f .align ≤ 4096

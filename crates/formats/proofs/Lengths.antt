@@ -9,7 +9,7 @@ use Rattle.little.proofs.Tests.{tests}
 use Rattle.units.specs.declared.Frames.{Frames}
 use Rattle.formats.specs.declared.Format.{Format}
 use Rattle.formats.specs.Bytes.{sharedBytes, extensionBytes, pairsBytes, coefficientBytes, formatBytes, factBytes}
-use Rattle.formats.proofs.Taken.{by-eqb}
+use Rattle.lists.proofs.Laws.{by-eqb}
 
 -- ---- the bytes for each tag
 module _ (f : Format) where

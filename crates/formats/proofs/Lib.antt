@@ -8,3 +8,5 @@ pub mod Putting
 pub mod Rules
 pub mod Taken
 pub mod Written
+pub mod Bytes
+pub mod Whole

@@ -1,6 +1,6 @@
 -- What a format that is taken says: the parts of its rule, one law for each format; and what the rules on its blocks
 -- and frames say of their numbers. Assumes nothing.
-use mathlib.Core.Path.{_≡_, refl, sym, ap, _∙_, subst}
+use mathlib.Core.Path.{_≡_, sym, ap, _∙_, subst}
 use mathlib.Core.Bool.{Bool, true, false, cond, _&&_, _||_}
 use Prim.Native.Nat.{ℕ, _+_, _-_, _*_, _/_, _%_, _≤_, _<_}
 use native.Mathlib.Nat.{mul-le-mul-right, mul-one, div-add-mod'}
@@ -8,20 +8,12 @@ use native.Mathlib.Omega.{arith}
 use lib.Dec.{T, leb, ltb, eqb}
 use borrow.Author.Tests.{leb-true, ltb-true, eqb-true, eqb-false, ne-eqb, not-true, not-false}
 use Rattle.little.proofs.Tests.{tests}
-use Rattle.lists.proofs.Laws.{and-both}
+use Rattle.lists.proofs.Laws.{by-eqb, and-both}
 use Rattle.units.specs.declared.BytePlace.{BytePlace}
 use Rattle.units.specs.declared.Frames.{Frames}
 use Rattle.formats.specs.declared.Format.{Format}
 use Rattle.formats.specs.Format.{byTag, shared, pcmRule, blocked, imaRule, microsoftRule, formatRule}
 use Rattle.formats.specs.Frames.{wholeBlocks, blocksIn, needsFact, countFits, framesRule}
-
--- two numbers are the same or not
-pub by-eqb : (a b : ℕ) (P : Bool → Type 0) → (a ≡ b → P true) → ((a ≡ b → ⊥) → P false) → P (eqb a b)
-by-eqb a b P f g = by (eqb a b) refl
-  where
-    by : (q : Bool) → eqb a b ≡ q → P q
-    by true t = f (eqb-true a b t)
-    by false t = g (eqb-false a b t)
 
 or-second : (a b : Bool) → (a || b) ≡ true → a ≡ false → b ≡ true
 or-second true b e n = cc

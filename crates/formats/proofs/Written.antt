@@ -10,13 +10,13 @@ use borrow.Author.Tests.{leb-true, eq-eqb}
 use Rattle.little.specs.Numbers.{numberIn, numberAt, bytesOf}
 use Rattle.little.proofs.Tests.{tests}
 use Rattle.lists.specs.Every.{every}
-use Rattle.lists.proofs.Laws.{and-both}
+use Rattle.lists.proofs.Laws.{by-eqb, and-both}
 use Rattle.samples.specs.Sound.{bitsOf}
 use Rattle.formats.specs.declared.Format.{Format}
 use Rattle.formats.specs.Format.{byTag, formatOf, extended, average, pairAt, pairsForm, formatForm, formatRule}
 use Rattle.formats.specs.Bytes.{averageOf, sharedBytes, extensionBytes, pairsBytes, coefficientBytes, formatBytes}
 use Rattle.formats.proofs.Forms.{average-is, form-pcm, form-ima, form-microsoft}
-use Rattle.formats.proofs.Taken.{by-eqb, by-format}
+use Rattle.formats.proofs.Taken.{by-format}
 use Rattle.formats.proofs.Bounds.{taken-fits}
 use Rattle.formats.proofs.Lengths.{bytes-pcm, bytes-ima, bytes-microsoft, format-pcm-long, format-ima-long, format-microsoft-long, format-other-long}
 use Rattle.formats.proofs.Putting.{average-fits, average-pcm}

@@ -185,3 +185,11 @@ every-at test i (suc n) k e h g = at (eqb k i) refl (every-at test (suc i) n k)
         → test k ≡ true
     at true t later = ap test (eqb-true k i t) ∙ both .0
     at false t later = let d = eqb-false k i t in later (both .1) (omega arith) (omega arith)
+
+-- two numbers are the same or not
+pub by-eqb : (a b : ℕ) (P : Bool → Type 0) → (a ≡ b → P true) → ((a ≡ b → ⊥) → P false) → P (eqb a b)
+by-eqb a b P f g = by (eqb a b) refl
+  where
+    by : (q : Bool) → eqb a b ≡ q → P q
+    by true t = f (eqb-true a b t)
+    by false t = g (eqb-false a b t)

@@ -6,7 +6,7 @@ use Prim.Native.Nat.{ℕ, zero, suc, _+_, _*_, _/_, _%_, _^_, _≤_, _<_}
 use native.Mathlib.Nat.{pow-suc, one-le-pow, div-lt-iff-lt-mul}
 use native.Mathlib.Numerals.{add-one, add-two, add-three}
 use native.Mathlib.Omega.{arith}
-use lib.Dec.{T, ltb, ltb→lt, lit<}
+use lib.Dec.{T, ltb, ltb→lt, lt→ltb, lit<}
 use lib.Pow.{areBytes}
 use lib.ListN.{length, take, drop, getD, set, List·getD-eq-default, drop-of-length-le, length-set}
 use lib.Seq.{take-nil, take-at, drop-cons, drop-drop}
@@ -84,7 +84,7 @@ said-bytes (b ∷ bs) t =
     rw (l, r) (ap (λ (m : List ℕ). b ∷ m) (said-bytes bs (and-yes (ltb b 256) (areBytes bs) t .1)))
 
 -- the same where the number stands at a place of bytes
-bytes-at : (n : ℕ) (s : List ℕ) (i : ℕ) → i + n ≤ length s → ((k : ℕ) → Fits w8 (getD s k 0)) → bytesOf n (numberAt n s i) ≡ take n (drop i s)
+pub bytes-at : (n : ℕ) (s : List ℕ) (i : ℕ) → i + n ≤ length s → ((k : ℕ) → Fits w8 (getD s k 0)) → bytesOf n (numberAt n s i) ≡ take n (drop i s)
 unfolding bytesOf
 bytes-at zero s i h b = refl
 bytes-at (suc n) s i h b =
@@ -139,7 +139,7 @@ pub ruleset reading = (two-bytes, four-bytes, byte-past, number-past)
 
 pub ruleset putting = (put-two, put-four, length-set)
 
--- ---- parts of bytes are bytes, and a number of n bytes fits them
+-- ---- parts of bytes are bytes, so is what they make up and what is put for a number, and a number of n bytes fits them
 pub taken-bytes : (n : ℕ) (s : List ℕ) → T (areBytes s) → T (areBytes (take n s))
 taken-bytes zero s t = tt
 taken-bytes (suc n) [] t = tt
@@ -151,6 +151,21 @@ pub dropped-bytes : (n : ℕ) (s : List ℕ) → T (areBytes s) → T (areBytes 
 dropped-bytes zero s t = t
 dropped-bytes (suc n) [] t = tt
 dropped-bytes (suc n) (b ∷ s) t = dropped-bytes n s (and-yes (ltb b 256) (areBytes s) t .1)
+
+pub both-bytes : (xs ys : List ℕ) → T (areBytes xs) → T (areBytes ys) → T (areBytes (xs ++ ys))
+both-bytes [] ys t u = u
+both-bytes (x ∷ xs) ys t u =
+    let p = and-yes (ltb x 256) (areBytes xs) t in
+    yes-and (ltb x 256) (areBytes (xs ++ ys)) (p .0) (both-bytes xs ys (p .1) u)
+
+pub number-bytes : (n v : ℕ) → T (areBytes (bytesOf n v))
+unfolding bytesOf
+number-bytes zero v = tt
+number-bytes (suc n) v =
+    let h = lt→ltb (v % 256) 256 (omega arith) in
+    yes-and (ltb (v % 256) 256) (areBytes (bytesOf n (v / 256))) h (number-bytes n (v / 256))
+
+pub ruleset bytewise = (both-bytes, number-bytes)
 
 first-fits : (n : ℕ) (s : List ℕ) → T (areBytes s) → numberIn (take n s) < 256 ^ n
 unfolding numberIn

@@ -1,4 +1,5 @@
-// Little-endian numbers read from bytes and put into them, and a run of bytes copied to a place.
+// Little-endian numbers read from bytes and put into them, a run of bytes copied to a place, and two
+// runs compared.
 //
 // `u16_at` and `u32_at` are for callers that have tested the room; `u16_or_zero` and `u32_or_zero`
 // take every place, and what lies past the end counts as 0.
@@ -7,6 +8,7 @@ ghost use Prim.Native.Nat.{_+_, _≤_, _<_};
 ghost use lib.ListN.{length, take, drop, getD};
 ghost use Rattle.little.specs.Numbers.{numberAt, bytesOf};
 ghost use Rattle.little.specs.Writing.{Put};
+ghost use Rattle.little.specs.Same.{sameBytes};
 
 // A byte as a wider number, with the bound that sums of bytes want.
 fn wide(byte: u8) -> u32
@@ -145,4 +147,62 @@ pub fn put_bytes(out: &mut [u8], at: usize, bytes: &[u8])
         i += 64;
     }
     put_many(out, at + (n - 64), bytes, n - 64);
+}
+
+// The 64-bit number at a place.
+fn u64_at(bytes: &[u8], at: usize) -> u64
+    requires { ⌜ at + 8 ≤ length (now bytes) ⌝ }
+    ensures { λ r. ⌜ r ≡ numberAt 8 (now (bytes .entry)) at ⌝ }
+{
+    let low = u32_at(bytes, at) as u64;
+    let high = u32_at(bytes, at + 4) as u64;
+    low + 4294967296 * high
+}
+
+// Whether two runs of bytes are the same in the sixteen from i on.
+fn same_sixteen(a: &[u8], b: &[u8], i: usize) -> bool
+    requires { ⌜ i + 16 ≤ length (now a) ⌝ }
+    requires { ⌜ i + 16 ≤ length (now b) ⌝ }
+    ensures { λ r. ⌜ r ≡ sameBytes (take 16 (drop i (now (a .entry)))) (take 16 (drop i (now (b .entry)))) ⌝ }
+{
+    let first = u64_at(a, i);
+    let second = u64_at(a, i + 8);
+    if first != u64_at(b, i) {
+        return false;
+    }
+    second == u64_at(b, i + 8)
+}
+
+// Whether two runs of bytes are the same from a place on, byte by byte.
+fn same_few(a: &[u8], b: &[u8], from: usize) -> bool
+    requires { ⌜ (length (now a) ≡ length (now b)) × (from ≤ length (now a)) ⌝ }
+    ensures { λ r. ⌜ r ≡ sameBytes (drop from (now (a .entry))) (drop from (now (b .entry))) ⌝ }
+{
+    let mut i = from;
+    while i < a.len() {
+        if a[i] != b[i] {
+            return false;
+        }
+        i += 1;
+    }
+    true
+}
+
+// Whether two runs of bytes are the same, sixteen at a turn.
+pub fn same_bytes(a: &[u8], b: &[u8]) -> bool
+    ensures { λ r. ⌜ r ≡ sameBytes (now (a .entry)) (now (b .entry)) ⌝ }
+{
+    let n = a.len();
+    if n != b.len() {
+        return false;
+    }
+    let mut i = 0;
+    while 16 <= n - i {
+        let same = same_sixteen(a, b, i);
+        if !same {
+            return false;
+        }
+        i += 16;
+    }
+    same_few(a, b, i)
 }

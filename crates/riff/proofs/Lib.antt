@@ -6,3 +6,4 @@ pub mod Laying
 pub mod Found
 pub mod Laid
 pub mod Tiling
+pub mod Bytes

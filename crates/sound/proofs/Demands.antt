@@ -17,7 +17,8 @@ use borrow.Author.Tests.{leb-true}
 use Rattle.samples.specs.Sound.{samplesIn, eight}
 use Rattle.formats.specs.declared.Format.{Format}
 use Rattle.formats.specs.Frames.{needsFact, blocksIn, Sounding}
-use Rattle.formats.proofs.Taken.{by-eqb, frames-begun, wanted-tag}
+use Rattle.lists.proofs.Laws.{by-eqb}
+use Rattle.formats.proofs.Taken.{frames-begun, wanted-tag}
 use Rattle.rules.specs.Rules.{blank}
 use Rattle.reader.specs.Content.{Content, refused, holds, contentOf, readingOf, soundOf, reading, soundIn}
 use Rattle.reader.proofs.Kept.{content-kept}

@@ -19,7 +19,7 @@ use Rattle.tables.specs.Plays.{noPlay, playable, allPlayable, playsRule}
 use Rattle.tables.specs.Bytes.{zeroPast, cuesKept, playsKept}
 use Rattle.tables.proofs.Entries.{held-all, held-room}
 
-take-map : {A B : Type 0} (f : A → B) (n : ℕ) (l : List A) → take n (map f l) ≡ map f (take n l)
+pub take-map : {A B : Type 0} (f : A → B) (n : ℕ) (l : List A) → take n (map f l) ≡ map f (take n l)
 take-map f zero l = refl
 take-map f (suc n) [] = refl
 take-map {B = B} f (suc n) (x ∷ l) = ap (λ (m : List B). f x ∷ m) (take-map f n l)

@@ -6,4 +6,8 @@ pub mod Kept
 pub mod Lengths
 pub mod Putting
 pub mod Rules
+pub mod More
 pub mod Written
+pub mod Bytes
+pub mod Behind
+pub mod BehindRules

@@ -2,3 +2,4 @@ pub mod Tables
 pub mod Cues
 pub mod Plays
 pub mod Bytes
+pub mod More

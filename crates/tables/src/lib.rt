@@ -1,5 +1,5 @@
-// What the chunks `cue ` and `plst` say, the rules that they must keep, and their bytes, as they are
-// written.
+// What the chunks `cue ` and `plst` say, the rules that they must keep, one entry more, and their bytes,
+// as they are written.
 //
 // As in `formats`, a chunk has a value, a form and a rule.
 use codes::Code;
@@ -7,15 +7,17 @@ use units::Donation;
 use units::Frames;
 ghost use mathlib.Core.Path.{_≡_};
 ghost use mathlib.Core.List.{map, _++_};
-ghost use Prim.Native.Nat.{_+_, _*_, _%_, _≤_};
+ghost use Prim.Native.Nat.{_+_, _*_, _%_, _≤_, _<_};
 ghost use lib.ListN.{length, take, replicate};
 ghost use Rattle.little.specs.Numbers.{bytesOf};
 ghost use Rattle.little.specs.Writing.{Put};
+ghost use Rattle.lists.specs.Among.{indexIn};
 ghost use Rattle.codes.specs.Codes.{codeBytes};
 ghost use Rattle.codes.specs.declared.Code.the-variants.{Data};
-ghost use Rattle.tables.specs.Cues.{noCue, cueAt, plainCue, cuesIn, cuesOf, cuesForm, nameOf, placeOf, cuesRule};
+ghost use Rattle.tables.specs.Cues.{noCue, cueAt, plainCue, cuesIn, cuesOf, cuesForm, nameOf, placeOf, namesIn, cuesRule};
 ghost use Rattle.tables.specs.Plays.{noPlay, playAt, playsIn, playsOf, playsForm, playable, allPlayable, playsRule};
 ghost use Rattle.tables.specs.Tables.{held};
+ghost use Rattle.tables.specs.More.{cuesWith, playsWith};
 ghost use Rattle.tables.specs.Bytes.{entryBytes, cueBytes, cuesBytes, playBytes, playsBytes};
 
 // The most entries that a table may have.
@@ -320,6 +322,46 @@ pub fn plays_rule(playlist: Playlist, cues: Cues, frames: Frames) -> bool
     let places = places_of(cue_list);
     let list = playlist.list;
     all_playable(list, s, &names[..c], &places[..c], frames)
+}
+
+// ---- one entry more
+
+// The first place of a name among the cues; where it is none of theirs, how many they are.
+pub fn find_cue(cues: Cues, name: Donation) -> usize
+    ensures { λ r. ⌜ (r ≡ indexIn (name .0) (namesIn cues)) × (r ≤ 64) ⌝ }
+{
+    let n = held_of(cues.count);
+    let list = cues.list;
+    let names = names_of(list);
+    lists::find(&names[..n], name.0)
+}
+
+// A cue table with one cue more, behind the others.
+pub fn with_cue(cues: Cues, cue: Cue) -> Cues
+    requires { ⌜ cues .count < 64 ⌝ }
+    ensures { λ r. ⌜ r ≡ cuesWith cues cue ⌝ }
+{
+    let count = cues.count;
+    let mut list = cues.list;
+    list[count as usize] = cue;
+    Cues {
+        count: count + 1,
+        list: list,
+    }
+}
+
+// A playlist with one entry more, behind the others.
+pub fn with_play(playlist: Playlist, play: Play) -> Playlist
+    requires { ⌜ playlist .count < 64 ⌝ }
+    ensures { λ r. ⌜ r ≡ playsWith playlist play ⌝ }
+{
+    let count = playlist.count;
+    let mut list = playlist.list;
+    list[count as usize] = play;
+    Playlist {
+        count: count + 1,
+        list: list,
+    }
 }
 
 // ---- writing

@@ -1,7 +1,7 @@
 -- A chunk is put as its head and then its data; the puts are one write of its bytes. Assumes nothing.
-use mathlib.Core.Path.{_≡_, refl, sym, _∙_}
+use mathlib.Core.Path.{_≡_, refl, sym, ap, _∙_, subst}
 use mathlib.Core.Bool.{Bool, true, false, not}
-use mathlib.Core.List.{List, [], append-nil}
+use mathlib.Core.List.{List, [], _++_, append-nil}
 use Prim.Native.Nat.{ℕ, _+_, _%_, _≤_, _<_}
 use native.Mathlib.Omega.{arith}
 use lib.ListN.{length, set, length-append}
@@ -52,23 +52,25 @@ module _ (k : Code) (bytes : List ℕ) where
 
 pub ruleset chunks = (head-room, data-room, chunk-put, chunk-next)
 
--- ---- a chunk with its pad
-module _ (k : Code) (bytes : List ℕ) {d e g : List ℕ} {at : ℕ} (h : at + length (pieceBytes (piece k bytes)) ≤ length d)
-    (p : Put d at (headBytes k (length bytes)) e) (q : Put e (at + 8) bytes g) where
-  pub pad-fits : at + 8 + length bytes + length (padBytes (length bytes)) ≤ length g
+-- ---- a chunk of n bytes with its pad
+module _ (k : Code) (bytes : List ℕ) {d e g : List ℕ} {at n : ℕ} (h : at + length (pieceBytes (piece k bytes)) ≤ length d)
+    (p : Put d at (headBytes k n) e) (q : Put e (at + 8) bytes g) (a : n ≡ length bytes) where
+  pub pad-fits : at + 8 + n + length (padBytes n) ≤ length g
   pad-fits =
-      let r = data-room k bytes (length bytes) h p in
+      let r = data-room k bytes n h p in
       let l = put-long q r in
-      let m = put-long p (omega (arith, length-head k (length bytes), head-room k bytes at h)) in
-      omega (arith, length-piece (piece k bytes), length-pad (length bytes))
+      let m = put-long p (omega (arith, length-head k n, head-room k bytes at h)) in
+      rw a (omega (arith, length-piece (piece k bytes), length-pad (length bytes)))
 
-  pub padded : {z : List ℕ} → Put g (at + 8 + length bytes) (padBytes (length bytes)) z → Put d at (pieceBytes (piece k bytes)) z
+  pub padded : {z : List ℕ} → Put g (at + 8 + n) (padBytes n) z → Put d at (pieceBytes (piece k bytes)) z
   unfolding pieceBytes
-  padded r =
-      let l = data-room k bytes (length bytes) h p in
-      let m = put-long p (omega (arith, length-head k (length bytes), head-room k bytes at h)) in
-      let u = put-next q r refl (omega (arith, length-piece (piece k bytes), length-pad (length bytes))) in
-      put-next p u (omega (arith, length-head k (length bytes))) (omega (arith, length-append bytes (padBytes (length bytes)), length-piece (piece k bytes), length-pad (length bytes)))
+  padded {z} r =
+      let b : n % 2 ≡ length bytes % 2 = ap (λ (i : ℕ). i % 2) a in
+      let l = length-piece (piece k bytes) in
+      let m = put-long p (omega (arith, length-head k n)) in
+      let u = put-next q r (omega arith) (omega (arith, length-pad n)) in
+      subst (λ (i : ℕ). Put d at (headBytes k i ++ (bytes ++ padBytes i)) z) a
+      (put-next p u (omega (arith, length-head k n)) (omega (arith, length-append bytes (padBytes n), length-pad n)))
 
 pub ruleset sounding = (head-room, data-room, pad-fits, padded)
 

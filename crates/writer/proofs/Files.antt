@@ -1,4 +1,4 @@
--- The whole file is put in three runs, the sound last; and the answer in the words of the code. Assumes nothing.
+-- The whole file is put in three runs, the sound last; and the answer in the words of the code, for a sound in two parts or in one. Assumes nothing.
 use mathlib.Core.Path.{_≡_, refl, sym, ap, _∙_}
 use mathlib.Core.Bool.{Bool, true, false, cond}
 use mathlib.Core.List.{List, [], _∷_, _++_, append-assoc, append-nil}
@@ -18,7 +18,8 @@ use Rattle.riff.proofs.Laying.{length-file}
 use Rattle.formats.specs.Format.{formatRule}
 use Rattle.tables.specs.declared.Playlist.{Playlist}
 use Rattle.rules.specs.declared.Record.{Record}
-use Rattle.writer.specs.File.{sizeOf, factPart, cuesPart, playsPart, partsOf, fileOf, opening, tablesOf, settled, answer, writing}
+use Rattle.writer.specs.File.{sizeOf, factPart, cuesPart, playsPart, partsOf, fileOf, opening, tablesOf, settled, answer, writing, holding}
+use Rattle.writer.specs.declared.Written.{Written}
 use Rattle.writer.specs.declared.Written.the-variants.{Bytes}
 use Rattle.writer.specs.declared.Written.the-variants as written
 use Rattle.writer.proofs.Opening.{formOf, countOf}
@@ -127,3 +128,13 @@ module _ (m : Record) (w d : List ℕ) {v : Verdict} (e : v ≡ settled m w (len
   answer-refused f = ap (λ (x : Verdict). answer x (sizeOf (fileOf m w))) (sym f ∙ e)
 
 pub ruleset answering = (asked, answer-written, answer-refused)
+
+-- ---- a sound in one part is one with an empty second part
+module _ (m : Record) (w d : List ℕ) (r : Written) where
+  pub one-answer : r ≡ writing m (w ++ []) (length d) → r ≡ writing m w (length d)
+  one-answer h = rw (append-nil w) at h
+
+  pub one-held : (z : List ℕ) → z ≡ holding r (fileOf m (w ++ [])) d → z ≡ holding r (fileOf m w) d
+  one-held z h = rw (append-nil w) at h
+
+pub ruleset one-part = (one-answer, one-held)

@@ -6,3 +6,4 @@ pub mod Files
 pub mod Back
 pub mod Room
 pub mod Demands
+pub mod Bytes

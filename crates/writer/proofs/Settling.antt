@@ -7,7 +7,6 @@ use native.Mathlib.Omega.{arith}
 use lib.Dec.{T, leb, leb→le}
 use lib.ListN.{length}
 use borrow.Author.Tests.{lt-leb, le-leb}
-use Rattle.units.specs.declared.BytePlace.{BytePlace}
 use Rattle.units.specs.declared.Refusal.{Refusal}
 use Rattle.units.specs.declared.Refusal.the-variants.{LengthOutOfRange, OutputTooSmall}
 use Rattle.units.specs.declared.Verdict.{Verdict}
@@ -20,14 +19,11 @@ use Rattle.rules.specs.Rules.{recordVerdict, Writable}
 use Rattle.rules.proofs.Taken.{record-keeps}
 use Rattle.writer.specs.File.{sizeOf, partsOf, fileOf, andThen, beforeRoom, settled}
 
-and-met : (u v : Verdict) → andThen u v ≡ Accepted → (u ≡ Accepted) × (v ≡ Accepted)
+pub and-met : (u v : Verdict) → andThen u v ≡ Accepted → (u ≡ Accepted) × (v ≡ Accepted)
 and-met Accepted v e = (refl, e)
 and-met (Refused r) v e = let z : _≡_ {A = ℕ} 0 1 = cc in absurd (omega arith)
 
 module _ (m : Record) (w : List ℕ) (room : ℕ) where
-  abbrev n : BytePlace
-  n = sizeOf w
-
   abbrev file : ℕ
   file = length (fileOf m w)
 
@@ -37,35 +33,38 @@ module _ (m : Record) (w : List ℕ) (room : ℕ) where
   abbrev roomed : Verdict
   roomed = demand (leb file room) OutputTooSmall Accepted
 
-  settled-by : {v u : Verdict} → v ≡ recordVerdict m n → v ≡ u → settled m w room ≡ andThen (andThen u limited) roomed
+  settled-by : {v u : Verdict} {k : ℕ} → k ≡ length w → v ≡ recordVerdict m (record { 0 = k }) → v ≡ u
+      → settled m w room ≡ andThen (andThen u limited) roomed
   unfolding settled beforeRoom
-  settled-by e f = ap (λ (x : Verdict). andThen (andThen x limited) roomed) (sym e ∙ f)
+  settled-by a e f =
+      ap (λ (i : ℕ). andThen (andThen (recordVerdict m (record { 0 = i })) limited) roomed) (sym a)
+      ∙ ap (λ (x : Verdict). andThen (andThen x limited) roomed) (sym e ∙ f)
 
   pub longer : length w ≤ file
   unfolding fileOf partsOf
   longer = omega (arith, length-laid (partsOf m w))
 
-  module _ {v : Verdict} (e : v ≡ recordVerdict m n) where
+  module _ {v : Verdict} {k : ℕ} (a : k ≡ length w) (e : v ≡ recordVerdict m (record { 0 = k })) where
     pub settle-ruled : {r : Refusal} → v ≡ Refused r → v ≡ settled m w room
-    settle-ruled f = f ∙ sym (settled-by e f)
+    settle-ruled f = f ∙ sym (settled-by a e f)
 
     module _ (f : v ≡ Accepted) where
-      pub settle-long : 1073741824 < length w → Refused LengthOutOfRange ≡ settled m w room
-      settle-long h = let l : leb file 1073741824 ≡ false = lt-leb file 1073741824 (omega (arith, longer)) in sym (settled-by e f ∙ simp l)
+      pub settle-long : 1073741824 < k → Refused LengthOutOfRange ≡ settled m w room
+      settle-long h = let l : leb file 1073741824 ≡ false = lt-leb file 1073741824 (omega (arith, longer)) in sym (settled-by a e f ∙ simp l)
 
       module _ {size : ℕ} (g : size ≡ file) where
-        pub settle-limit : (k : ℕ) → k < size → 1073741824 ≤ k → Refused LengthOutOfRange ≡ settled m w room
-        settle-limit k h i = let l : leb file 1073741824 ≡ false = lt-leb file 1073741824 (omega arith) in sym (settled-by e f ∙ simp l)
+        pub settle-limit : (most : ℕ) → most < size → 1073741824 ≤ most → Refused LengthOutOfRange ≡ settled m w room
+        settle-limit most h i = let l : leb file 1073741824 ≡ false = lt-leb file 1073741824 (omega arith) in sym (settled-by a e f ∙ simp l)
 
         module _ (h : size ≤ 1073741824) where
           l : leb file 1073741824 ≡ true
           l = le-leb file 1073741824 (omega arith)
 
           pub settle-room : room < size → Refused OutputTooSmall ≡ settled m w room
-          settle-room i = let j : leb file room ≡ false = lt-leb file room (omega arith) in sym (settled-by e f ∙ simp (l, j))
+          settle-room i = let j : leb file room ≡ false = lt-leb file room (omega arith) in sym (settled-by a e f ∙ simp (l, j))
 
           pub settle-taken : size ≤ room → Accepted ≡ settled m w room
-          settle-taken i = let j : leb file room ≡ true = le-leb file room (omega arith) in sym (settled-by e f ∙ simp (l, j))
+          settle-taken i = let j : leb file room ≡ true = le-leb file room (omega arith) in sym (settled-by a e f ∙ simp (l, j))
 
 pub ruleset settling = (settle-ruled, settle-long, settle-limit, settle-room, settle-taken)
 
@@ -79,7 +78,7 @@ pub settled-says : (m : Record) (w : List ℕ) (room : ℕ) → settled m w room
 unfolding settled beforeRoom
 settled-says m w room e =
     let p = and-met (beforeRoom m w) (roomed m w room) e in
-    let q = and-met (recordVerdict m (n m w room)) (limited m w room) (p .0) in
+    let q = and-met (recordVerdict m (sizeOf w)) (limited m w room) (p .0) in
     let r = demand-met (leb (length (fileOf m w)) 1073741824) LengthOutOfRange Accepted (q .1) in
     let s = demand-met (leb (length (fileOf m w)) room) OutputTooSmall Accepted (p .1) in
     record {

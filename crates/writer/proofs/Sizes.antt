@@ -1,10 +1,10 @@
--- How long a chunk and the file are, in the words of the code. Assumes nothing.
+-- How long a chunk, the sound and the file are, in the words of the code. Assumes nothing.
 use mathlib.Core.Path.{_≡_, refl, sym, _∙_}
 use mathlib.Core.Bool.{Bool, true, false, cond}
-use mathlib.Core.List.{List}
+use mathlib.Core.List.{List, _++_}
 use Prim.Native.Nat.{ℕ, _+_, _%_, _≤_, _<_}
 use native.Mathlib.Omega.{arith}
-use lib.ListN.{length}
+use lib.ListN.{length, length-append}
 use borrow.Author.Tests.{lt-leb, le-leb}
 use Rattle.units.specs.declared.Frames.{Frames}
 use Rattle.riff.specs.Laying.{Part, extentIf}
@@ -55,14 +55,21 @@ module _ (p : Playlist) where
 
 pub ruleset sizes = (fact-size, fact-none, cues-none, cues-size, plays-none, plays-size)
 
+-- ---- the sound in two parts
+pub sound-size : (x y : List ℕ) → length x + length y ≡ length (x ++ y)
+sound-size x y = sym (length-append x y)
+
 -- ---- the file
-module _ (m : Record) (w : List ℕ) where
-  pub file-size : {fmt fact cue plst : ℕ}
-      → fmt ≡ length (formatBytes (m .format)) → fmt % 2 ≡ 0 → fact ≡ cond (needsFact (m .format)) 12 0
-      → cue ≡ extentIf (cuesPart (m .cues)) → plst ≡ extentIf (playsPart (m .playlist))
-      → 12 + 8 + fmt + fact + cue + plst + 8 + length w + length w % 2 ≡ length (fileOf m w)
+module _ (m : Record) (w : List ℕ) {fmt fact cue plst : ℕ}
+    (a : fmt ≡ length (formatBytes (m .format))) (b : fmt % 2 ≡ 0) (c : fact ≡ cond (needsFact (m .format)) 12 0)
+    (d : cue ≡ extentIf (cuesPart (m .cues))) (e : plst ≡ extentIf (playsPart (m .playlist))) where
+  pub file-size : 12 + 8 + fmt + fact + cue + plst + 8 + length w + length w % 2 ≡ length (fileOf m w)
   unfolding fileOf partsOf
-  file-size a b c d e =
+  file-size =
       let l = length-laid (partsOf m w) in
       let f = fact-extent (m .format) (m .frames) in
       omega arith
+
+  -- the same where n is the length of the sound
+  pub file-counted : {n : ℕ} → n ≡ length w → 12 + 8 + fmt + fact + cue + plst + 8 + n + n % 2 ≡ length (fileOf m w)
+  file-counted i = rw i file-size

@@ -1,7 +1,7 @@
 // Writing a WAVE file: `fmt `, `fact` for ADPCM, `cue ` and `plst` where there are entries, and `data`.
 //
-// All is settled before the first store, so that a refusal leaves the lent buffer as it was. The sound
-// is copied once and not looked at.
+// All is settled before the first store, so that a refusal leaves the lent buffer as it was. The sound,
+// which may come in two parts, is copied once and not looked at.
 use codes::Code;
 use formats::Format;
 use rules::Record;
@@ -13,6 +13,7 @@ use units::Refusal;
 use units::Verdict;
 ghost use mathlib.Core.Path.{_≡_};
 ghost use mathlib.Core.Bool.{true, cond};
+ghost use mathlib.Core.List.{_++_};
 ghost use Prim.Native.Nat.{_+_, _≤_};
 ghost use lib.ListN.{length};
 ghost use Rattle.codes.specs.declared.Code.the-variants as code;
@@ -62,10 +63,17 @@ fn plays_extent(playlist: Playlist) -> usize
     8 + tables::plays_size(playlist)
 }
 
+// The bytes of a sound in two parts. Two slices are together shorter than a usize counts.
+fn sound_size(first: &[u8], second: &[u8]) -> usize
+    ensures { λ r. ⌜ r ≡ length (now (first .entry) ++ now (second .entry)) ⌝ }
+{
+    first.len() + second.len()
+}
+
 // The length of the file.
-fn file_size(made: Record, sound: &[u8]) -> usize
-    requires { ⌜ length (now sound) ≤ 1073741824 ⌝ }
-    ensures { λ r. ⌜ r ≡ length (fileOf made (now (sound .entry))) ⌝ }
+fn file_size(made: Record, first: &[u8], second: &[u8]) -> usize
+    requires { ⌜ length (now first ++ now second) ≤ 1073741824 ⌝ }
+    ensures { λ r. ⌜ r ≡ length (fileOf made (now (first .entry) ++ now (second .entry))) ⌝ }
 {
     let format = made.format;
     let cues = made.cues;
@@ -74,23 +82,24 @@ fn file_size(made: Record, sound: &[u8]) -> usize
     let fact = fact_extent(format);
     let cue = cues_extent(cues);
     let plst = plays_extent(playlist);
-    let n = sound.len();
+    let n = sound_size(first, second);
     12 + 8 + fmt + fact + cue + plst + 8 + n + n % 2
 }
 
 // The verdict on writing a record and its sound: 9 to 13, then 1, then 14.
-fn settle(made: Record, sound: &[u8], room: usize) -> Verdict
-    ensures { λ r. ⌜ r ≡ settled made (now (sound .entry)) room ⌝ }
+fn settle(made: Record, first: &[u8], second: &[u8], room: usize) -> Verdict
+    ensures { λ r. ⌜ r ≡ settled made (now (first .entry) ++ now (second .entry)) room ⌝ }
 {
-    let ruled = rules::record_verdict(made, BytePlace(sound.len()));
+    let sound = sound_size(first, second);
+    let ruled = rules::record_verdict(made, BytePlace(sound));
     let Verdict::Accepted = ruled else {
         return ruled;
     };
     // So that the sum in `file_size` fits.
-    if riff::LIMIT < sound.len() {
+    if riff::LIMIT < sound {
         return Verdict::Refused(Refusal::LengthOutOfRange);
     }
-    let size = file_size(made, sound);
+    let size = file_size(made, first, second);
     if riff::LIMIT < size {
         return Verdict::Refused(Refusal::LengthOutOfRange);
     }
@@ -167,14 +176,23 @@ fn put_pad(out: &mut [u8], at: usize, size: usize)
     out[at] = 0;
 }
 
-fn put_sound(out: &mut [u8], at: usize, sound: &[u8])
-    requires { ⌜ length (now sound) ≤ 1073741824 ⌝ }
-    requires { ⌜ at + length (pieceBytes (piece code.Data (now sound))) ≤ length (now out) ⌝ }
-    ensures { λ _. ⌜ Put (now (out .entry)) at (pieceBytes (piece code.Data (now (sound .entry)))) (now (out .exit)) ⌝ }
+// Puts the two parts of a sound, one behind the other.
+fn put_joined(out: &mut [u8], at: usize, first: &[u8], second: &[u8])
+    requires { ⌜ at + length (now first ++ now second) ≤ length (now out) ⌝ }
+    ensures { λ _. ⌜ Put (now (out .entry)) at (now (first .entry) ++ now (second .entry)) (now (out .exit)) ⌝ }
 {
-    let size = sound.len();
+    little::put_bytes(out, at, first);
+    little::put_bytes(out, at + first.len(), second);
+}
+
+fn put_sound(out: &mut [u8], at: usize, first: &[u8], second: &[u8])
+    requires { ⌜ length (now first ++ now second) ≤ 1073741824 ⌝ }
+    requires { ⌜ at + length (pieceBytes (piece code.Data (now first ++ now second))) ≤ length (now out) ⌝ }
+    ensures { λ _. ⌜ Put (now (out .entry)) at (pieceBytes (piece code.Data (now (first .entry) ++ now (second .entry)))) (now (out .exit)) ⌝ }
+{
+    let size = sound_size(first, second);
     riff::put_head(out, at, Code::Data, size as u32);
-    little::put_bytes(out, at + 8, sound);
+    put_joined(out, at + 8, first, second);
     put_pad(out, at + 8 + size, size);
 }
 
@@ -204,19 +222,19 @@ fn put_tables(out: &mut [u8], at: usize, cues: Cues, playlist: Playlist) -> usiz
 }
 
 // Puts the whole file, for which all is settled, and gives its length.
-fn put_file(made: Record, sound: &[u8], out: &mut [u8]) -> BytePlace
-    requires { ⌜ settled made (now sound) (length (now out)) ≡ verdict.Accepted ⌝ }
-    ensures { λ r. ⌜ (r .0 ≡ length (fileOf made (now (sound .entry))))
-        × (now (out .exit) ≡ front (fileOf made (now (sound .entry))) (now (out .entry))) ⌝ }
+fn put_file(made: Record, first: &[u8], second: &[u8], out: &mut [u8]) -> BytePlace
+    requires { ⌜ settled made (now first ++ now second) (length (now out)) ≡ verdict.Accepted ⌝ }
+    ensures { λ r. ⌜ (r .0 ≡ length (fileOf made (now (first .entry) ++ now (second .entry))))
+        × (now (out .exit) ≡ front (fileOf made (now (first .entry) ++ now (second .entry))) (now (out .entry))) ⌝ }
 {
     let format = made.format;
     let frames = made.frames;
     let cues = made.cues;
     let playlist = made.playlist;
-    let size = file_size(made, sound);
+    let size = file_size(made, first, second);
     let tables = put_opening(out, size as u32, format, frames);
     let data_at = put_tables(out, tables, cues, playlist);
-    put_sound(out, data_at, sound);
+    put_sound(out, data_at, first, second);
     BytePlace(size)
 }
 
@@ -225,9 +243,17 @@ pub fn write(made: Record, sound: &[u8], out: &mut [u8]) -> Written
     ensures { λ r. ⌜ (r ≡ writing made (now (sound .entry)) (length (now (out .entry))))
         × (now (out .exit) ≡ holding r (fileOf made (now (sound .entry))) (now (out .entry))) ⌝ }
 {
-    let verdict = settle(made, sound, out.len());
+    write_joined(made, sound, b"", out)
+}
+
+// The same with a sound in two parts, one behind the other: the song side of adding.
+pub fn write_joined(made: Record, first: &[u8], second: &[u8], out: &mut [u8]) -> Written
+    ensures { λ r. ⌜ (r ≡ writing made (now (first .entry) ++ now (second .entry)) (length (now (out .entry))))
+        × (now (out .exit) ≡ holding r (fileOf made (now (first .entry) ++ now (second .entry))) (now (out .entry))) ⌝ }
+{
+    let verdict = settle(made, first, second, out.len());
     match verdict {
         Verdict::Refused(refusal) => Written::Refused(refusal),
-        Verdict::Accepted => Written::Bytes(put_file(made, sound, out)),
+        Verdict::Accepted => Written::Bytes(put_file(made, first, second, out)),
     }
 }

@@ -1,5 +1,5 @@
 -- The extents of the chunks, added up.
-use Rattle.writer.proofs.Sizes.{file-size}
+use Rattle.writer.proofs.Sizes.{file-counted}
 use borrow.Author.Needs.{needs}
 use Rattle.writer.proofs.file_size.Statement.{statement}
 use Rattle.writer.proofs.file_size.Tie as tie
@@ -8,5 +8,6 @@ pub file-size-spec : {M : Type 1} → statement M
 file-size-spec =
     tie.close
     (tie.spec (λ c κs. search needs) (λ c κs. search needs) (λ c κs. search needs) (λ c κs. search needs)
-    (λ c. search needs) (λ c. search needs) (λ c. search needs) (λ c. search needs) (λ c. search needs)
-    (λ c. search needs) (λ c. search needs) (λ c. search needs) (λ c. search (needs, file-size)))
+    (λ c κs. search needs) (λ c. search needs) (λ c. search needs) (λ c. search needs) (λ c. search needs)
+    (λ c. search needs) (λ c. search needs) (λ c. search needs) (λ c. search needs)
+    (λ c. search (needs, file-counted)))

@@ -1,5 +1,5 @@
--- All is settled before the first store: a refusal leaves the buffer as it was, and else the file stands in it.
-use Rattle.writer.proofs.Files.{answering}
+-- The second part is empty.
+use Rattle.writer.proofs.Files.{one-part}
 use borrow.Author.Needs.{needs}
 use Rattle.writer.proofs.write.Statement.{statement}
 use Rattle.writer.proofs.write.Tie as tie
@@ -7,5 +7,4 @@ use Rattle.writer.proofs.write.Tie as tie
 pub write-spec : {M : Type 1} → statement M
 write-spec =
     tie.close
-    (tie.spec (λ c κs. search needs) (λ c. search needs) (λ c. search needs) (λ c κs. search (needs, answering))
-    (λ c. search (needs, answering)) (λ c. search needs) (λ c. search (needs, answering)))
+    (tie.spec (λ c. search needs) (λ c κs. search needs) (λ c. search needs) (λ c. search (needs, one-part)))

@@ -1,0 +1,146 @@
+-- The new side and the answer, in the words of the code. Assumes nothing.
+use mathlib.Core.Path.{_≡_, refl, sym, ap, _∙_}
+use mathlib.Core.Bool.{Bool, true, false}
+use mathlib.Core.List.{List, [], _++_}
+use Prim.Native.Nat.{ℕ, _+_, _*_, _≤_, _<_}
+use native.Mathlib.Omega.{arith}
+use lib.ListN.{replicate}
+use mir.Syntax.{w32}
+use mir.Val.{Fits}
+use Rattle.little.specs.Writing.{front}
+use Rattle.units.specs.declared.BytePlace.{BytePlace}
+use Rattle.units.specs.declared.Donation.{Donation}
+use Rattle.units.specs.declared.Frames.{Frames}
+use Rattle.units.specs.declared.Refusal.{Refusal}
+use Rattle.units.specs.declared.Refusal.the-variants.{FormatWrong}
+use Rattle.units.specs.declared.Verdict.{Verdict}
+use Rattle.units.specs.declared.Verdict.the-variants as verdict
+use Rattle.formats.specs.Format.{formatRule}
+use Rattle.formats.proofs.Taken.{taken-two}
+use Rattle.tables.specs.declared.Cue.{Cue}
+use Rattle.tables.specs.declared.Play.{Play}
+use Rattle.tables.specs.Cues.{noCue}
+use Rattle.tables.specs.Plays.{noPlay}
+use Rattle.tables.proofs.BehindRules.{cues-few, plays-few}
+use Rattle.rules.specs.declared.Record.{Record}
+use Rattle.rules.specs.declared.Reading.{Reading}
+use Rattle.rules.specs.Rules.{inOrder, recordVerdict, blank}
+use Rattle.reader.specs.Content.{reading, soundIn}
+use Rattle.reader.proofs.Demands.{sound-placed, refusing}
+use Rattle.reader.proofs.Kept.{content-taken, content-rules}
+use Rattle.writer.specs.declared.Written.{Written}
+use Rattle.writer.specs.declared.Written.the-variants as written
+use Rattle.writer.specs.File as file
+use Rattle.writer.specs.File.{fileOf, beforeRoom, settled, writing}
+use Rattle.side.specs.declared.Added.{Added}
+use Rattle.side.specs.declared.Added.the-variants.{Bytes, Refused}
+use Rattle.side.specs.Side.{isSide}
+use Rattle.side.specs.Adding.{addVerdict, withSong, newFile, told, answer, adding, holding, emptySide}
+use Rattle.side.proofs.Songs.{side-says}
+use Rattle.side.proofs.Answers.{Met, verdict-says, place-says}
+
+-- ---- what writing answers
+module _ (m : Record) (w : List ℕ) (room : ℕ) {g : Record} (made : g ≡ m) {x : Written} (e : x ≡ writing g w room) where
+  pub told-bytes : {n : BytePlace} → x ≡ written.Bytes n → Bytes n ≡ told (writing m w room)
+  told-bytes f = ap told (sym f ∙ e ∙ ap (λ (r : Record). writing r w room) made)
+
+  pub told-refused : {r : Refusal} → x ≡ written.Refused r → Refused r ≡ told (writing m w room)
+  told-refused f = ap told (sym f ∙ e ∙ ap (λ (r : Record). writing r w room) made)
+
+module _ (m : Record) (w d : List ℕ) {g : Record} (made : g ≡ m) {x : Written} {z : List ℕ} (h : z ≡ file.holding x (fileOf g w) d) where
+  pub held-bytes : {n : BytePlace} → x ≡ written.Bytes n → z ≡ front (fileOf m w) d
+  held-bytes f = h ∙ ap (λ (y : Written). file.holding y (fileOf g w) d) f ∙ ap (λ (r : Record). front (fileOf r w) d) made
+
+  pub held-refused : {r : Refusal} → x ≡ written.Refused r → z ≡ d
+  held-refused f = h ∙ ap (λ (y : Written). file.holding y (fileOf g w) d) f
+
+pub ruleset joining = (told-bytes, told-refused, held-bytes, held-refused)
+
+-- ---- two files that were read
+module _ (side : Reading) (w : List ℕ) (song : Reading) (v : List ℕ) (number : Donation) (limit : Frames) {x : Verdict}
+    (e : x ≡ addVerdict side w song v number limit) where
+  pub answer-refused : {r : Refusal} (y : Written) → x ≡ verdict.Refused r → Refused r ≡ answer (addVerdict side w song v number limit) y
+  answer-refused y f = ap (λ (z : Verdict). answer z y) (sym f ∙ e)
+
+  pub answer-joined : (y : Written) {r : Added} → x ≡ verdict.Accepted → r ≡ told y → r ≡ answer (addVerdict side w song v number limit) y
+  answer-joined y f g = g ∙ ap (λ (z : Verdict). answer z y) (sym f ∙ e)
+
+  -- ---- the song has place
+  module _ (f : x ≡ verdict.Accepted) where
+    met : Met side w song number limit
+    met = verdict-says side w song v number limit (sym e ∙ f)
+
+    pub stands : isSide (side .made) ≡ true
+    stands = side-says side (met .side) .1
+
+    pub few-cues : side .made .cues .count < 64
+    few-cues = place-says (side .made) (song .made .frames) limit (met .place) .0
+
+    pub frames-fit : Fits w32 (limit .0) → side .made .frames .0 + song .made .frames .0 < 4294967296
+    frames-fit l = let h = l .fits in omega (arith, place-says (side .made) (song .made .frames) limit (met .place) .1)
+
+pub ruleset reading-added = (answer-refused, answer-joined, stands, few-cues, frames-fit)
+
+-- ---- the files
+module _ (s t : List ℕ) (number : Donation) (limit : Frames) {side song : Reading} {w v : List ℕ}
+    (a : side ≡ reading s) (b : w ≡ soundIn s) (c : song ≡ reading t) (d : v ≡ soundIn t) where
+  pub added : (room : ℕ) {r : Added}
+      → r ≡ answer (addVerdict side w song v number limit) (writing (withSong (side .made) number (song .made .frames)) (w ++ v) room)
+      → r ≡ adding s t number limit room
+  unfolding adding
+  added room e = e ∙ (λ i. answer (addVerdict (a i) (b i) (c i) (d i) number limit) (writing (withSong (a i .made) number (c i .made .frames)) (b i ++ d i) room))
+
+  pub new-held : (r : Added) (old : List ℕ) {z : List ℕ} → z ≡ holding r (fileOf (withSong (side .made) number (song .made .frames)) (w ++ v)) old
+      → z ≡ holding r (newFile s t number) old
+  unfolding newFile
+  new-held r old e = e ∙ (λ i. holding r (fileOf (withSong (a i .made) number (c i .made .frames)) (b i ++ d i)) old)
+
+-- no file that is read has more than 64 cues or entries
+read-few : (s : List ℕ) → (reading s .made .cues .count ≤ 64) × (reading s .made .playlist .count ≤ 64)
+read-few s = by (reading s .verdict) refl
+  where
+    by : (v : Verdict) → reading s .verdict ≡ v → (reading s .made .cues .count ≤ 64) × (reading s .made .playlist .count ≤ 64)
+    by verdict.Accepted e =
+        let m : Record = reading s .made in
+        let k = content-rules s (content-taken s refl e refl) in
+        (cues-few (m .cues) (m .frames) (k .cues), plays-few (m .playlist) (m .cues) (m .frames) (k .plays))
+    by (verdict.Refused r) e =
+        let b : reading s .made ≡ blank = refusing s r e .made in
+        (rw b (omega arith), rw b (omega arith))
+
+pub read-cues : (s : List ℕ) {x : Reading} → x ≡ reading s → x .made .cues .count ≤ 64
+read-cues s e = rw e (read-few s .0)
+
+pub read-plays : (s : List ℕ) {x : Reading} → x ≡ reading s → x .made .playlist .count ≤ 64
+read-plays s e = rw e (read-few s .1)
+
+pub ruleset file-added = (sound-placed, added, new-held, read-cues, read-plays)
+
+-- ---- an empty side
+pub empty-made : (channels rate : ℕ) {c : List Cue} {p : List Play} → c ≡ replicate 64 noCue → p ≡ replicate 64 noPlay
+    → record {
+      format = record { tag = 1; channels = channels; rate = rate; bits = 16; align = 2 * channels; samples = 1 };
+      frames = record { 0 = 0 };
+      cues = record { count = 0; list = c };
+      playlist = record { count = 0; list = p };
+    } ≡ emptySide channels rate
+unfolding emptySide
+empty-made channels rate e f = simp (e, f)
+
+module _ (channels rate room : ℕ) where
+  pub empty-channels : 2 < channels → written.Refused FormatWrong ≡ writing (emptySide channels rate) [] room
+  unfolding writing settled beforeRoom recordVerdict inOrder emptySide
+  empty-channels h = by (formatRule (emptySide channels rate .format)) refl
+    where
+      by : (b : Bool) → formatRule (emptySide channels rate .format) ≡ b → written.Refused FormatWrong ≡ writing (emptySide channels rate) [] room
+      by true e = absurd (omega (arith, taken-two (emptySide channels rate .format) e))
+      by false e = simp e
+
+  pub empty-written : {m : Record} {r : Written} → m ≡ emptySide channels rate → r ≡ writing m [] room → r ≡ writing (emptySide channels rate) [] room
+  empty-written e f = f ∙ ap (λ (m : Record). writing m [] room) e
+
+pub empty-held : (channels rate : ℕ) (r : Written) (d : List ℕ) {m : Record} {z : List ℕ} → m ≡ emptySide channels rate → z ≡ file.holding r (fileOf m []) d
+    → z ≡ file.holding r (fileOf (emptySide channels rate) []) d
+empty-held channels rate r d e f = f ∙ ap (λ (m : Record). file.holding r (fileOf m []) d) e
+
+pub ruleset emptying = (empty-made, empty-channels, empty-written, empty-held)

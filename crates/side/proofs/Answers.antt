@@ -1,0 +1,147 @@
+-- What an answer of adding says, both ways: a song is taken exactly where each demand is met, and then the new file is written.
+-- Assumes nothing.
+use mathlib.Core.Path.{_≡_, refl, ap}
+use mathlib.Core.Bool.{Bool, true, false, cond}
+use mathlib.Core.List.{List}
+use Prim.Native.Nat.{ℕ, _+_, _≤_, _<_}
+use native.Mathlib.Omega.{arith}
+use lib.Dec.{ltb, leb}
+use borrow.Author.Tests.{ltb-true, leb-true, lt-ltb, le-leb}
+use Rattle.little.specs.Same.{sameBytes}
+use Rattle.lists.proofs.Laws.{and-both}
+use Rattle.units.specs.declared.BytePlace.{BytePlace}
+use Rattle.units.specs.declared.Donation.{Donation}
+use Rattle.units.specs.declared.Frames.{Frames}
+use Rattle.units.specs.declared.Refusal.the-variants.{FormatWrong, SongEmptyOrDifferent, NoPlaceOnSide, AlreadyListed, NotASide}
+use Rattle.units.specs.declared.Verdict.{Verdict}
+use Rattle.units.specs.declared.Verdict.the-variants as verdict
+use Rattle.units.specs.Refusals.{demand}
+use Rattle.units.proofs.Laws.{demand-met}
+use Rattle.rules.specs.declared.Record.{Record}
+use Rattle.rules.specs.declared.Reading.{Reading}
+use Rattle.reader.specs.Content.{reading, soundIn}
+use Rattle.writer.specs.declared.Written.{Written}
+use Rattle.writer.specs.declared.Written.the-variants as written
+use Rattle.writer.specs.File.{writing}
+use Rattle.writer.proofs.Settling.{and-met}
+use Rattle.side.specs.declared.Added.the-variants.{Bytes, Refused}
+use Rattle.side.specs.Side.{sideRead, songsHeld, isSideFile, songsIn, isListed, listedSound}
+use Rattle.side.specs.Adding.{suits, onceMore, hasPlace, placeVerdict, addVerdict, newRecord, newSound, told, answer, adding}
+use Rattle.side.specs.Demands.{framesIn, formatIn}
+
+-- ---- each demand of the verdict is met, of two files as they were read
+pub record Met (x : Reading) (w : List ℕ) (y : Reading) (number : Donation) (limit : Frames) : Type 0 where
+  pub taken : y .verdict ≡ verdict.Accepted
+  pub side : sideRead x ≡ true
+  pub suited : suits (x .made .format) (y .made .format) ≡ true
+  pub some : leb 1 (y .made .frames .0) ≡ true
+  pub fresh : isListed number (songsHeld (x .made) w) ≡ false
+  pub place : hasPlace (x .made) (y .made .frames) limit ≡ true
+
+module _ (x : Reading) (w : List ℕ) (y : Reading) (v : List ℕ) (number : Donation) (limit : Frames) where
+  abbrev placed : Verdict
+  placed = placeVerdict (x .made) w (y .made .frames) v number limit
+
+  placed-says : placed ≡ verdict.Accepted
+      → (isListed number (songsHeld (x .made) w) ≡ false) × (hasPlace (x .made) (y .made .frames) limit ≡ true)
+  unfolding placeVerdict onceMore
+  placed-says =
+      by (isListed number (songsHeld (x .made) w)) (hasPlace (x .made) (y .made .frames) limit)
+      (onceMore (listedSound number (songsHeld (x .made) w)) v) refl
+    where
+      by : (b c : Bool) (u : Verdict) → onceMore (listedSound number (songsHeld (x .made) w)) v ≡ u
+          → cond b u (demand c NoPlaceOnSide verdict.Accepted) ≡ verdict.Accepted → (b ≡ false) × (c ≡ true)
+      by true c u h e = let z : _≡_ {A = ℕ} 0 1 = cc in absurd (omega arith)
+      by false c u h e = (refl, demand-met c NoPlaceOnSide verdict.Accepted e .0)
+
+  pub verdict-says : addVerdict x w y v number limit ≡ verdict.Accepted → Met x w y number limit
+  unfolding addVerdict
+  verdict-says e =
+      let f : Bool = suits (x .made .format) (y .made .format) in
+      let g : Bool = leb 1 (y .made .frames .0) in
+      let i : Verdict = demand g SongEmptyOrDifferent placed in
+      let j : Verdict = demand f FormatWrong i in
+      let a = and-met (y .verdict) (demand (sideRead x) NotASide j) e in
+      let b = demand-met (sideRead x) NotASide j (a .1) in
+      let c = demand-met f FormatWrong i (b .1) in
+      let d = demand-met g SongEmptyOrDifferent placed (c .1) in
+      let p = placed-says (d .1) in
+      record { taken = a .0; side = b .0; suited = c .0; some = d .0; fresh = p .0; place = p .1 }
+
+-- fewer than 64 songs, and the frames within the limit
+pub place-says : (m : Record) (frames limit : Frames) → hasPlace m frames limit ≡ true
+    → (m .cues .count < 64) × (m .frames .0 + frames .0 ≤ limit .0)
+unfolding hasPlace
+place-says m frames limit e =
+    let n : ℕ = m .frames .0 + frames .0 in
+    let p = and-both (ltb (m .cues .count) 64) (leb n (limit .0)) e in
+    (ltb-true (m .cues .count) 64 (p .0), leb-true n (limit .0) (p .1))
+
+-- ---- the song of a file t is taken on the side of a file s
+pub record Taking (s t : List ℕ) (number : Donation) (limit : Frames) : Type 0 where
+  pub taken : reading t .verdict ≡ verdict.Accepted
+  pub side : isSideFile s ≡ true
+  pub suited : suits (formatIn s) (formatIn t) ≡ true
+  pub some : 1 ≤ framesIn t
+  pub fresh : isListed number (songsIn s) ≡ false
+  pub few : reading s .made .cues .count < 64
+  pub within : framesIn s + framesIn t ≤ limit .0
+
+module _ (s t : List ℕ) (number : Donation) (limit : Frames) where
+  abbrev pub place : Bool
+  place = hasPlace (reading s .made) (reading t .made .frames) limit
+
+  abbrev judged : Verdict
+  judged = addVerdict (reading s) (soundIn s) (reading t) (soundIn t) number limit
+
+  -- in the words of the tests
+  pub taking : reading t .verdict ≡ verdict.Accepted → isSideFile s ≡ true → suits (formatIn s) (formatIn t) ≡ true
+      → leb 1 (framesIn t) ≡ true → isListed number (songsIn s) ≡ false → place ≡ true → Taking s t number limit
+  taking a b c d e f =
+      let q = place-says (reading s .made) (reading t .made .frames) limit f in
+      record { taken = a; side = b; suited = c; some = leb-true 1 (framesIn t) d; fresh = e; few = q .0; within = q .1 }
+
+  judged-says : judged ≡ verdict.Accepted → Taking s t number limit
+  judged-says e =
+      let k = verdict-says (reading s) (soundIn s) (reading t) (soundIn t) number limit e in
+      taking (k .taken) (k .side) (k .suited) (k .some) (k .fresh) (k .place)
+
+  judged-taken : Taking s t number limit → judged ≡ verdict.Accepted
+  unfolding addVerdict placeVerdict hasPlace
+  judged-taken k =
+      let a = le-leb 1 (framesIn t) (k .some) in
+      let b = lt-ltb (reading s .made .cues .count) 64 (k .few) in
+      let c = le-leb (framesIn s + framesIn t) (limit .0) (k .within) in
+      simp (k .taken, k .side, k .suited, k .fresh, a, b, c)
+
+  -- ---- with room for so many bytes
+  module _ (room : ℕ) where
+    abbrev pub writes : Written
+    writes = writing (newRecord s t number) (newSound s t) room
+
+    pub added-says : (n : BytePlace) → adding s t number limit room ≡ Bytes n
+        → Taking s t number limit × (writes ≡ written.Bytes n)
+    unfolding adding
+    added-says n e = let p = by judged writes e in (judged-says (p .0), p .1)
+      where
+        by : (v : Verdict) (w : Written) → answer v w ≡ Bytes n → (v ≡ verdict.Accepted) × (w ≡ written.Bytes n)
+        by verdict.Accepted (written.Bytes k) h = (refl, cc)
+        by verdict.Accepted (written.Refused r) h = let z : _≡_ {A = ℕ} 0 1 = cc in absurd (omega arith)
+        by (verdict.Refused r) w h = let z : _≡_ {A = ℕ} 0 1 = cc in absurd (omega arith)
+
+    pub taking-added : Taking s t number limit → adding s t number limit room ≡ told writes
+    unfolding adding
+    taking-added k = ap (λ (v : Verdict). answer v writes) (judged-taken k)
+
+    -- ---- a song that suits: without frames, or with a number that is listed
+    module _ (a : reading t .verdict ≡ verdict.Accepted) (b : isSideFile s ≡ true)
+        (c : suits (formatIn s) (formatIn t) ≡ true) where
+      pub empty-added : leb 1 (framesIn t) ≡ false → adding s t number limit room ≡ Refused SongEmptyOrDifferent
+      unfolding adding addVerdict
+      empty-added f = simp (a, b, c, f)
+
+      pub listed-added : {q : Bool} → leb 1 (framesIn t) ≡ true → isListed number (songsIn s) ≡ true
+          → sameBytes (listedSound number (songsIn s)) (soundIn t) ≡ q
+          → adding s t number limit room ≡ Refused (cond q AlreadyListed SongEmptyOrDifferent)
+      unfolding adding addVerdict placeVerdict onceMore
+      listed-added f l e = simp (a, b, c, f, l, e)

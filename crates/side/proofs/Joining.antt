@@ -1,0 +1,61 @@
+-- The record and the sound of a song that is taken: what a side with one song more keeps, at the two files. Assumes nothing.
+use mathlib.Core.Path.{_≡_, refl}
+use mathlib.Core.Bool.{true}
+use mathlib.Core.List.{List, [], _∷_, _++_}
+use Prim.Native.Nat.{ℕ, _+_, _*_, _<_}
+use native.Mathlib.Omega.{arith}
+use lib.Dec.{T}
+use lib.ListN.{length}
+use lib.Pow.{areBytes}
+use Rattle.little.proofs.Reading.{both-bytes}
+use Rattle.units.specs.declared.Donation.{Donation}
+use Rattle.units.specs.declared.Frames.{Frames}
+use Rattle.rules.specs.Rules.{Writable}
+use Rattle.rules.specs.Written.{recordKept, RecordFits}
+use Rattle.reader.specs.Content.{reading, soundIn}
+use Rattle.reader.proofs.Kept.{content-taken}
+use Rattle.reader.proofs.Again.{content-fits, content-kept-read}
+use Rattle.writer.specs.File.{sizeOf}
+use Rattle.side.specs.Side.{isSide, songsHeld, songsIn}
+use Rattle.side.specs.Adding.{newRecord, newSound, newFile}
+use Rattle.side.specs.Demands.{framesIn, formatIn, songFrom}
+use Rattle.side.proofs.Growing.{Standing, songs-count, grown-rules, grown-fits, grown-kept, grown-side, grown-songs, grown-long}
+use Rattle.side.proofs.Answers.{Taking}
+use Rattle.side.proofs.Sides.{sound-bytes, side-held, standing, song-long}
+
+module _ {s t : List ℕ} {number : Donation} {limit : Frames} (k : Taking s t number limit) where
+  abbrev frames : Frames
+  frames = reading t .made .frames
+
+  stands : Standing (reading s .made) (soundIn s)
+  stands = standing s (k .side)
+
+  long : length (soundIn t) ≡ formatIn s .align * framesIn t
+  long = song-long s (k .side) t (k .taken) (k .suited)
+
+  pub new-rules : Writable (newRecord s t number) (sizeOf (newSound s t))
+  new-rules = grown-rules stands number frames (soundIn t) (k .few) (k .some) long (k .fresh)
+
+  pub new-fits : T (areBytes s) → number .0 < 4294967296 → limit .0 < 4294967296 → RecordFits (newRecord s t number)
+  new-fits b h l =
+      let i = k .within in
+      grown-fits stands number frames (soundIn t) (k .few) (k .some) long (content-fits s (side-held s (k .side)) b) h (omega arith)
+
+  pub new-kept : recordKept (newRecord s t number) ≡ newRecord s t number
+  new-kept = grown-kept stands number frames (soundIn t) (k .few) (k .some) long (content-kept-read s (side-held s (k .side)))
+
+  pub new-bytes : T (areBytes s) → T (areBytes t) → T (areBytes (newSound s t))
+  new-bytes b c =
+      both-bytes (soundIn s) (soundIn t) (sound-bytes s (side-held s (k .side)) b)
+      (sound-bytes t (content-taken t refl (k .taken) refl) c)
+
+  pub new-side : isSide (newRecord s t number) ≡ true
+  new-side = grown-side stands number frames (soundIn t) (k .few) (k .some) long
+
+  pub new-songs : songsHeld (newRecord s t number) (newSound s t)
+      ≡ songsIn s ++ (songFrom (framesIn s) (record { file = t; number = number }) ∷ [])
+  new-songs = grown-songs stands number frames (soundIn t) (k .few) (k .some) long
+
+  pub new-long : length (newFile s t number) ≡ 68 + 36 * (length (songsIn s) + 1) + formatIn s .align * (framesIn s + framesIn t)
+  unfolding newFile
+  new-long = omega (arith, songs-count stands, grown-long stands number frames (soundIn t) (k .few) (k .some) long)

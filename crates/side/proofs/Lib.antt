@@ -1,0 +1,16 @@
+pub mod Sixteen
+pub mod Songs
+pub mod Sizes
+pub mod Growing
+pub mod Judging
+pub mod Placing
+pub mod Answers
+pub mod Adding
+pub mod Sides
+pub mod Listed
+pub mod Joining
+pub mod Demands
+pub mod Ready
+pub mod Sending
+pub mod EmptySide
+pub mod Rows

@@ -1,0 +1,188 @@
+-- The verdict on adding, in the words of the code: where a number is listed, and each demand in its order. Assumes nothing.
+use mathlib.Core.Path.{_≡_, refl, sym, ap, _∙_}
+use mathlib.Core.Bool.{Bool, true, false, not, cond}
+use mathlib.Core.List.{List, [], _∷_, map}
+use Prim.Native.Nat.{ℕ, suc, _+_, _*_, _≤_, _<_}
+use native.Mathlib.Omega.{arith}
+use lib.Dec.{eqb, ltb}
+use lib.ListN.{length, take, drop, getD, length-map, length-take}
+use lib.Seq.{length-take-le, getD-take}
+use borrow.Author.Tests.{lt-ltb, le-ltb, lt-leb, le-leb, not-true, not-false}
+use Rattle.little.specs.Same.{sameBytes}
+use Rattle.lists.specs.Among.{indexIn, has}
+use Rattle.units.specs.declared.Donation.{Donation}
+use Rattle.units.specs.declared.Frames.{Frames}
+use Rattle.units.specs.declared.Refusal.{Refusal}
+use Rattle.units.specs.declared.Refusal.the-variants.{FormatWrong, SongEmptyOrDifferent, NoPlaceOnSide, AlreadyListed, NotASide}
+use Rattle.units.specs.declared.Verdict.{Verdict}
+use Rattle.units.specs.declared.Verdict.the-variants.{Accepted, Refused}
+use Rattle.formats.specs.declared.Format.{Format}
+use Rattle.tables.specs.declared.Cue.{Cue}
+use Rattle.tables.specs.declared.Cues.{Cues}
+use Rattle.tables.specs.declared.Play.{Play}
+use Rattle.tables.specs.declared.Playlist.{Playlist}
+use Rattle.tables.specs.Cues.{noCue, nameOf, namesIn}
+use Rattle.tables.specs.Plays.{noPlay}
+use Rattle.tables.specs.More.{cuesWith, playsWith}
+use Rattle.tables.proofs.Putting.{array-long}
+use Rattle.tables.proofs.Behind.{names-first}
+use Rattle.rules.specs.declared.Record.{Record}
+use Rattle.rules.specs.declared.Reading.{Reading}
+use Rattle.side.specs.Side.{cueList, playList, isSide, sideRead, framesAt, soundAt, songsOf, songsHeld, isListed, listedSound}
+use Rattle.side.specs.Adding.{suits, onceMore, hasPlace, placeVerdict, addVerdict, withSong}
+use Rattle.side.proofs.Songs.{songs-named, tiled-long, side-tiled, side-says}
+use Rattle.side.proofs.Judging.{product-fits}
+
+-- ---- the sound of a song
+pub frames-part : (f : Format) (w : List ℕ) (place long : Frames) {r : List ℕ} → r ≡ take (f .align * long .0) (drop (f .align * place .0) w)
+    → r ≡ framesAt f w place long
+unfolding framesAt
+frames-part f w place long e = e
+
+-- the song that has a number is the one at its index among the names
+songs-sound : (n : Donation) (f : Format) (w : List ℕ) (cs : List Cue) (ps : List Play) → length cs ≡ length ps
+    → indexIn (n .0) (map nameOf cs) < length cs
+    → framesAt f w (getD cs (indexIn (n .0) (map nameOf cs)) noCue .place) (getD ps (indexIn (n .0) (map nameOf cs)) noPlay .length)
+    ≡ listedSound n (songsOf f w cs ps)
+unfolding songsOf listedSound indexIn
+songs-sound n f w [] ps e h = absurd (omega arith)
+songs-sound n f w (c ∷ cs) [] e h = absurd (omega arith)
+songs-sound n f w (c ∷ cs) (p ∷ ps) e h = by (indexIn (n .0) (map nameOf cs)) (eqb (c .name .0) (n .0)) h (songs-sound n f w cs ps (omega arith))
+  where
+    by : (i : ℕ) (b : Bool) → cond b 0 (suc i) < suc (length cs)
+        → (i < length cs → framesAt f w (getD cs i noCue .place) (getD ps i noPlay .length) ≡ listedSound n (songsOf f w cs ps))
+        → framesAt f w (getD (c ∷ cs) (cond b 0 (suc i)) noCue .place) (getD (p ∷ ps) (cond b 0 (suc i)) noPlay .length)
+        ≡ cond b (framesAt f w (c .place) (p .length)) (listedSound n (songsOf f w cs ps))
+    by i true k t = refl
+    by i false k t = t (omega arith)
+
+module _ (m : Record) (w : List ℕ) (number : Donation) {found : ℕ} (few : m .cues .count ≤ 64) (side : isSide m ≡ true)
+    (cueRoom : length (m .cues .list) ≡ 64)
+    (e : found ≡ indexIn (number .0) (namesIn (m .cues))) where
+  cues-many : length (cueList m) ≡ m .cues .count
+  unfolding cueList
+  cues-many = length-take-le (m .cues .count) (m .cues .list) (omega arith)
+
+  lists-long : length (cueList m) ≡ length (playList m)
+  lists-long = tiled-long (m .frames .0) (cueList m) (playList m) 0 (side-tiled m side)
+
+  plays-many : length (playList m) ≤ m .playlist .count
+  unfolding playList
+  plays-many = omega (arith, length-take (m .playlist .count) (m .playlist .list))
+
+  names : namesIn (m .cues) ≡ map nameOf (cueList m)
+  unfolding cueList
+  names = names-first (m .cues) few
+
+  index : found ≡ indexIn (number .0) (map nameOf (cueList m))
+  index = e ∙ ap (indexIn (number .0)) names
+
+  listed : isListed number (songsHeld m w) ≡ ltb found (m .cues .count)
+  unfolding songsHeld has
+  listed =
+      songs-named number (m .format) w (cueList m) (playList m) lists-long
+      ∙ (λ i. ltb (sym index i) ((length-map (cueList m) nameOf ∙ cues-many) i))
+
+  first-cue : found < m .cues .count → getD (m .cues .list) found noCue ≡ getD (cueList m) found noCue
+  unfolding cueList
+  first-cue h = sym (getD-take (m .cues .count) (m .cues .list) found noCue h)
+
+  first-play : found < m .cues .count → getD (m .playlist .list) found noPlay ≡ getD (playList m) found noPlay
+  unfolding playList
+  first-play h = sym (getD-take (m .playlist .count) (m .playlist .list) found noPlay (omega (arith, lists-long, cues-many, plays-many)))
+
+  -- ---- a listed number
+  sound : found < m .cues .count
+      → soundAt m w found
+      ≡ listedSound number (songsHeld m w)
+  unfolding songsHeld
+  sound h = (λ j. framesAt (m .format) w (cue j .place) (play j .length)) ∙ songs-sound number (m .format) w (cueList m) (playList m) lists-long within
+    where
+      cue : getD (m .cues .list) found noCue ≡ getD (cueList m) (indexIn (number .0) (map nameOf (cueList m))) noCue
+      cue = first-cue h ∙ ap (λ (k : ℕ). getD (cueList m) k noCue) index
+
+      play : getD (m .playlist .list) found noPlay ≡ getD (playList m) (indexIn (number .0) (map nameOf (cueList m))) noPlay
+      play = first-play h ∙ ap (λ (k : ℕ). getD (playList m) k noPlay) index
+
+      within : indexIn (number .0) (map nameOf (cueList m)) < length (cueList m)
+      within = omega (arith, index, cues-many)
+
+  module _ (frames : Frames) (v : List ℕ) (limit : Frames) where
+    pub place-listed : {r : Verdict} → found < m .cues .count
+        → r ≡ onceMore (soundAt m w found) v
+        → r ≡ placeVerdict m w frames v number limit
+    unfolding placeVerdict
+    place-listed h q = q ∙ ap (λ (l : List ℕ). onceMore l v) (sound h) ∙ simp (listed, lt-ltb found (m .cues .count) h)
+
+    module _ (h : m .cues .count ≤ found) {b : Bool} (p : b ≡ hasPlace m frames limit) where
+      pub place-none : not b ≡ true → Refused NoPlaceOnSide ≡ placeVerdict m w frames v number limit
+      unfolding placeVerdict
+      place-none f = simp (listed, le-ltb found (m .cues .count) h, sym p ∙ not-true b f)
+
+      pub place-free : not b ≡ false → Accepted ≡ placeVerdict m w frames v number limit
+      unfolding placeVerdict
+      place-free f = simp (listed, le-ltb found (m .cues .count) h, sym p ∙ not-false b f)
+
+module _ (old v : List ℕ) {x : List ℕ} (o : x ≡ old) {b : Bool} (e : b ≡ sameBytes x v) where
+  pub once-same : b ≡ true → Refused AlreadyListed ≡ onceMore old v
+  unfolding onceMore
+  once-same f = simp (← o, sym e ∙ f)
+
+  pub once-other : b ≡ false → Refused SongEmptyOrDifferent ≡ onceMore old v
+  unfolding onceMore
+  once-other f = simp (← o, sym e ∙ f)
+
+pub ruleset placing = (product-fits, frames-part, array-long, place-listed, place-none, place-free, once-same, once-other)
+
+-- ---- the demands in their order
+module _ (side : Reading) (w : List ℕ) (song : Reading) (v : List ℕ) (number : Donation) (limit : Frames) where
+  pub song-refused : {r : Refusal} → song .verdict ≡ Refused r → song .verdict ≡ addVerdict side w song v number limit
+  unfolding addVerdict
+  song-refused e = simp e
+
+  module _ (e : song .verdict ≡ Accepted) {a : Bool} (f : a ≡ sideRead side) where
+    pub no-side : not a ≡ true → Refused NotASide ≡ addVerdict side w song v number limit
+    unfolding addVerdict
+    no-side g = simp (e, sym f ∙ not-true a g)
+
+    module _ (g : not a ≡ false) {b : Bool} (h : b ≡ suits (side .made .format) (song .made .format)) where
+      pub unsuited : not b ≡ true → Refused FormatWrong ≡ addVerdict side w song v number limit
+      unfolding addVerdict
+      unsuited k = simp (e, sym f ∙ not-false a g, sym h ∙ not-true b k)
+
+      module _ (k : not b ≡ false) where
+        pub no-frames : {least : ℕ} → song .made .frames .0 < least → least ≤ 1 → Refused SongEmptyOrDifferent ≡ addVerdict side w song v number limit
+        unfolding addVerdict
+        no-frames l q = simp (e, sym f ∙ not-false a g, sym h ∙ not-false b k, lt-leb 1 (song .made .frames .0) (omega arith))
+
+        pub some-frames : {r : Verdict} → 1 ≤ song .made .frames .0 → r ≡ placeVerdict (side .made) w (song .made .frames) v number limit
+            → r ≡ addVerdict side w song v number limit
+        unfolding addVerdict
+        some-frames l q = q ∙ simp (e, sym f ∙ not-false a g, sym h ∙ not-false b k, le-leb 1 (song .made .frames .0) l)
+
+pub read-is-side : (side : Reading) {a : Bool} → a ≡ sideRead side → not a ≡ false → isSide (side .made) ≡ true
+read-is-side side {a} e f = side-says side (sym e ∙ not-false a f) .1
+
+pub ruleset settling = (song-refused, no-side, unsuited, no-frames, some-frames, read-is-side)
+
+-- ---- the record with one song more
+pub song-made : (m : Record) (number : Donation) (frames : Frames) {c : Cues} {p : Playlist}
+    → c ≡ cuesWith (m .cues) (record { name = number; position = m .frames; place = m .frames })
+    → p ≡ playsWith (m .playlist) (record { name = number; length = frames; times = 1 })
+    → record { format = m .format; frames = record { 0 = m .frames .0 + frames .0 }; cues = c; playlist = p } ≡ withSong m number frames
+unfolding withSong
+song-made m number frames e f = simp (e, f)
+
+-- a side has as many entries as cues
+pub few-entries : (m : Record) → isSide m ≡ true → m .cues .count < 64 → m .playlist .count ≤ 64
+    → length (m .cues .list) ≡ 64 → length (m .playlist .list) ≡ 64 → m .playlist .count < 64
+unfolding cueList playList
+few-entries m e h k cueRoom playRoom =
+    omega (
+      arith,
+      length-take-le (m .cues .count) (m .cues .list) (omega arith),
+      length-take-le (m .playlist .count) (m .playlist .list) (omega arith),
+      tiled-long (m .frames .0) (cueList m) (playList m) 0 (side-tiled m e),
+    )
+
+pub ruleset singing = (song-made, few-entries, array-long)

@@ -1,0 +1,116 @@
+-- Adding a song to a side: the verdict, the file, and what the lent buffer then holds. Assumes nothing.
+use Prim.Native.Nat.{ℕ, _+_, _*_}
+use mathlib.Core.Bool.{Bool, cond, _&&_}
+use mathlib.Core.List.{List, _++_}
+use lib.Dec.{eqb, ltb, leb}
+use lib.ListN.{replicate}
+use Rattle.little.specs.Same.{sameBytes}
+use Rattle.little.specs.Writing.{front}
+use Rattle.units.specs.declared.Donation.{Donation}
+use Rattle.units.specs.declared.Frames.{Frames}
+use Rattle.units.specs.declared.Refusal.the-variants.{FormatWrong, SongEmptyOrDifferent, NoPlaceOnSide, AlreadyListed, NotASide}
+use Rattle.units.specs.declared.Verdict.{Verdict}
+use Rattle.units.specs.declared.Verdict.the-variants as verdict
+use Rattle.units.specs.Refusals.{numberOf, demand}
+use Rattle.formats.specs.declared.Format.{Format}
+use Rattle.tables.specs.Cues.{noCue}
+use Rattle.tables.specs.Plays.{noPlay}
+use Rattle.tables.specs.More.{cuesWith, playsWith}
+use Rattle.rules.specs.declared.Record.{Record}
+use Rattle.rules.specs.declared.Reading.{Reading}
+use Rattle.reader.specs.Content.{reading, soundIn}
+use Rattle.writer.specs.declared.Written.{Written}
+use Rattle.writer.specs.declared.Written.the-variants as written
+use Rattle.writer.specs.File.{andThen, fileOf, writing}
+use Rattle.side.specs.declared.Added.{Added}
+use Rattle.side.specs.declared.Added.the-variants.{Bytes, Refused}
+use Rattle.side.specs.Side.{sixteenBit, sideRead, songsHeld, isListed, listedSound}
+
+-- ---- the verdict
+
+-- the song is 16-bit PCM of the side's channels and rate
+unfoldable pub suits : Format → Format → Bool
+suits side song = sixteenBit song && eqb (song .channels) (side .channels) && eqb (song .rate) (side .rate)
+
+-- a listed number: 18 for the same sound, else 16
+unfoldable pub onceMore : List ℕ → List ℕ → Verdict
+onceMore listed sound = verdict.Refused (cond (sameBytes listed sound) AlreadyListed SongEmptyOrDifferent)
+
+-- there are fewer than 64 songs, and F + frames is not above the limit
+unfoldable pub hasPlace : Record → Frames → Frames → Bool
+hasPlace m frames limit = ltb (m .cues .count) 64 && leb (m .frames .0 + frames .0) (limit .0)
+
+-- a listed number; then 17. The side is a record with its sound, the song so many frames of sound
+unfoldable pub placeVerdict : Record → List ℕ → Frames → List ℕ → Donation → Frames → Verdict
+placeVerdict m w frames v number limit =
+    cond (isListed number (songsHeld m w)) (onceMore (listedSound number (songsHeld m w)) v)
+    (demand (hasPlace m frames limit) NoPlaceOnSide verdict.Accepted)
+
+-- the song file's refusals 1 to 13; 19 if the side file is refused or is no side; 9; 16 for no frames; then as above. Both files
+-- as they were read, each with its sound
+unfoldable pub addVerdict : Reading → List ℕ → Reading → List ℕ → Donation → Frames → Verdict
+addVerdict side w song v number limit =
+    andThen (song .verdict)
+    (demand (sideRead side) NotASide
+    (demand (suits (side .made .format) (song .made .format)) FormatWrong
+    (demand (leb 1 (song .made .frames .0)) SongEmptyOrDifferent
+    (placeVerdict (side .made) w (song .made .frames) v number limit))))
+
+-- ---- the file
+
+-- a cue (position = offset = the old F) and a playlist entry follow the others
+unfoldable pub withSong : Record → Donation → Frames → Record
+withSong m number frames =
+    record {
+      format = m .format;
+      frames = record { 0 = m .frames .0 + frames .0 };
+      cues = cuesWith (m .cues) (record { name = number; position = m .frames; place = m .frames });
+      playlist = playsWith (m .playlist) (record { name = number; length = frames; times = 1 });
+    }
+
+-- of a side file s and a song file t
+abbrev pub newRecord : List ℕ → List ℕ → Donation → Record
+newRecord s t number = withSong (reading s .made) number (reading t .made .frames)
+
+-- the sound goes behind the last song
+abbrev pub newSound : List ℕ → List ℕ → List ℕ
+newSound s t = soundIn s ++ soundIn t
+
+unfoldable pub newFile : List ℕ → List ℕ → Donation → List ℕ
+newFile s t number = fileOf (newRecord s t number) (newSound s t)
+
+-- ---- the answer, with room for so many bytes
+
+abbrev pub told : Written → Added
+told (written.Bytes n) = Bytes n
+told (written.Refused r) = Refused r
+
+abbrev pub answer : Verdict → Written → Added
+answer verdict.Accepted w = told w
+answer (verdict.Refused r) w = Refused r
+
+-- the file is written by the rules of writing: 1 if it would be above the limit; 14
+unfoldable pub adding : List ℕ → List ℕ → Donation → Frames → ℕ → Added
+adding s t number limit room =
+    answer (addVerdict (reading s) (soundIn s) (reading t) (soundIn t) number limit)
+    (writing (newRecord s t number) (newSound s t) room)
+
+-- a buffer d after it: the file from its start and then what it held, or all as it was
+abbrev pub holding : Added → List ℕ → List ℕ → List ℕ
+holding (Bytes n) ys d = front ys d
+holding (Refused r) ys d = d
+
+-- the number of an answer: 0 where the song is added
+abbrev pub addedNumber : Added → ℕ
+addedNumber (Bytes n) = 0
+addedNumber (Refused r) = numberOf r
+
+-- ---- an empty side: 16-bit PCM, no frame, no cue and no entry
+unfoldable pub emptySide : ℕ → ℕ → Record
+emptySide channels rate =
+    record {
+      format = record { tag = 1; channels = channels; rate = rate; bits = 16; align = 2 * channels; samples = 1 };
+      frames = record { 0 = 0 };
+      cues = record { count = 0; list = replicate 64 noCue };
+      playlist = record { count = 0; list = replicate 64 noPlay };
+    }

@@ -1,0 +1,203 @@
+-- Demand 2 of sides: adding a listed number again changes nothing and says so; no add moves or drops a song. Of all files of bytes,
+-- numbers, limits and rooms. `Demands`, `Sending`, `EmptySide` and `Rows` of `proofs/` prove them. Assumes nothing.
+use Prim.Native.Nat.{ℕ, _+_, _*_, _≤_, _<_}
+use mathlib.Core.Path.{_≡_}
+use mathlib.Core.Bool.{Bool, true, false, not, cond, _||_}
+use mathlib.Core.List.{List, [], _∷_, _++_}
+use lib.Dec.{T, eqb, ltb, leb}
+use lib.ListN.{length}
+use lib.Pow.{areBytes}
+use Rattle.little.specs.Same.{sameBytes}
+use Rattle.units.specs.declared.BytePlace.{BytePlace}
+use Rattle.units.specs.declared.Donation.{Donation}
+use Rattle.units.specs.declared.Frames.{Frames}
+use Rattle.units.specs.declared.Refusal.{Refusal}
+use Rattle.units.specs.declared.Refusal.the-variants.{SongEmptyOrDifferent, AlreadyListed}
+use Rattle.units.specs.declared.Verdict.{Verdict}
+use Rattle.units.specs.declared.Verdict.the-variants as verdict
+use Rattle.units.specs.Refusals.{numberOf}
+use Rattle.formats.specs.declared.Format.{Format}
+use Rattle.reader.specs.Content.{reading, soundIn}
+use Rattle.writer.specs.declared.Written.the-variants as written
+use Rattle.writer.specs.File.{sizeOf, fileOf, writing}
+use Rattle.side.specs.declared.Added.{Added}
+use Rattle.side.specs.declared.Added.the-variants.{Bytes, Refused}
+use Rattle.side.specs.Side.{Song, isSideFile, songsIn, isListed, listedSound}
+use Rattle.side.specs.Adding.{suits, newFile, adding, holding, addedNumber, emptySide}
+
+-- how many frames a file has, and its format
+abbrev pub framesIn : List ℕ → ℕ
+framesIn s = reading s .made .frames .0
+
+abbrev pub formatIn : List ℕ → Format
+formatIn s = reading s .made .format
+
+-- ---- a song as it is sent: its file, and the number that it was donated under
+pub record Sent : Type 0 where
+  pub file : List ℕ
+  pub number : Donation
+
+-- a file of bytes, and a number of 32 bits
+pub record Bytewise (x : Sent) : Type 0 where
+  pub file : T (areBytes (x .file))
+  pub number : x .number .0 < 4294967296
+
+-- the song that stands from a frame on
+abbrev pub songFrom : ℕ → Sent → Song
+songFrom at x =
+    record {
+      number = x .number;
+      position = record { 0 = at };
+      place = record { 0 = at };
+      length = reading (x .file) .made .frames;
+      sound = soundIn (x .file);
+    }
+
+-- ---- where a song is added
+
+-- the file that adding x to a side file s makes, n bytes long: a side of the same format, whose running order is the old one with
+-- one song more at the end; so every old song keeps its number, position, place, length and its sound, byte for byte
+pub record Grown (s : List ℕ) (x : Sent) (n : BytePlace) : Type 0 where
+  pub long : n ≡ sizeOf (newFile s (x .file) (x .number))
+  pub bytes : T (areBytes (newFile s (x .file) (x .number)))
+  pub side : isSideFile (newFile s (x .file) (x .number)) ≡ true
+  pub format : formatIn (newFile s (x .file) (x .number)) ≡ formatIn s
+  pub frames : framesIn (newFile s (x .file) (x .number)) ≡ framesIn s + framesIn (x .file)
+  pub songs : songsIn (newFile s (x .file) (x .number)) ≡ songsIn s ++ (songFrom (framesIn s) x ∷ [])
+  pub sound : soundIn (newFile s (x .file) (x .number)) ≡ soundIn s ++ soundIn (x .file)
+
+unfoldable pub Grows : Type 0
+Grows =
+    (s : List ℕ) (x : Sent) (limit : Frames) (room : ℕ) (n : BytePlace) → T (areBytes s) → Bytewise x → limit .0 < 4294967296
+    → adding s (x .file) (x .number) limit room ≡ Bytes n → Grown s x n
+
+-- ---- a listed number, whatever limit and room: 18 with the same sound, 16 with other sound
+
+pub record Listed (s t : List ℕ) (number : Donation) (limit : Frames) (room : ℕ) : Type 0 where
+  pub same : soundIn t ≡ listedSound number (songsIn s) → adding s t number limit room ≡ Refused AlreadyListed
+  pub other : (soundIn t ≡ listedSound number (songsIn s) → ⊥) → adding s t number limit room ≡ Refused SongEmptyOrDifferent
+
+unfoldable pub OnceListed : Type 0
+OnceListed =
+    (s t : List ℕ) (number : Donation) (limit : Frames) (room : ℕ)
+    → isSideFile s ≡ true → isListed number (songsIn s) ≡ true
+    → reading t .verdict ≡ verdict.Accepted → suits (formatIn s) (formatIn t) ≡ true → Listed s t number limit room
+
+-- so it is of the file that adding x made, for every song file t sent under the same number afterwards
+pub record Known (s : List ℕ) (x : Sent) (t : List ℕ) (limit : Frames) (room : ℕ) : Type 0 where
+  pub same : soundIn t ≡ soundIn (x .file) → adding (newFile s (x .file) (x .number)) t (x .number) limit room ≡ Refused AlreadyListed
+  pub other : (soundIn t ≡ soundIn (x .file) → ⊥)
+      → adding (newFile s (x .file) (x .number)) t (x .number) limit room ≡ Refused SongEmptyOrDifferent
+
+unfoldable pub AddedAgain : Type 0
+AddedAgain =
+    (s : List ℕ) (x : Sent) (limit : Frames) (room : ℕ) (n : BytePlace) → T (areBytes s) → Bytewise x → limit .0 < 4294967296
+    → adding s (x .file) (x .number) limit room ≡ Bytes n
+    → (t : List ℕ) (later : Frames) (lent : ℕ) → reading t .verdict ≡ verdict.Accepted → suits (formatIn s) (formatIn t) ≡ true
+    → Known s x t later lent
+
+-- ---- a refused add leaves everything as it was
+unfoldable pub LeavesAll : Type 0
+LeavesAll =
+    (s t : List ℕ) (number : Donation) (limit : Frames) (r : Refusal) (d : List ℕ) → adding s t number limit (length d) ≡ Refused r
+    → holding (adding s t number limit (length d)) (newFile s t number) d ≡ d
+
+-- ---- songs sent one after the other, each added to the file that the one before made; where it is refused, that file stays
+
+abbrev pub sideAfter : Added → List ℕ → List ℕ → List ℕ
+sideAfter (Bytes n) old new = new
+sideAfter (Refused r) old new = old
+
+unfoldable pub addAll : Frames → ℕ → List ℕ → List Sent → List ℕ
+addAll limit room s [] = s
+addAll limit room s (x ∷ xs) =
+    addAll limit room (sideAfter (adding s (x .file) (x .number) limit room) s (newFile s (x .file) (x .number))) xs
+
+-- the songs sent, in that order, one behind the other from a frame on
+unfoldable pub inRow : ℕ → List Sent → List Song
+inRow at [] = []
+inRow at (x ∷ xs) = songFrom at x ∷ inRow (at + framesIn (x .file)) xs
+
+unfoldable pub framesSent : List Sent → ℕ
+framesSent [] = 0
+framesSent (x ∷ xs) = framesIn (x .file) + framesSent xs
+
+-- a song that a side of some format can take: its file is taken, it suits the side, and it has frames
+pub record Suitable (f : Format) (x : Sent) : Type 0 where
+  pub bytewise : Bytewise x
+  pub taken : reading (x .file) .verdict ≡ verdict.Accepted
+  pub suited : suits f (formatIn (x .file)) ≡ true
+  pub frames : 1 ≤ framesIn (x .file)
+
+unfoldable pub AllSuitable : Format → List Sent → Type 0
+AllSuitable f [] = Unit {0}
+AllSuitable f (x ∷ xs) = Suitable f x × AllSuitable f xs
+
+-- each number is listed at most once
+unfoldable pub isSent : Donation → List Sent → Bool
+isSent n [] = false
+isSent n (x ∷ xs) = cond (eqb (x .number .0) (n .0)) true (isSent n xs)
+
+unfoldable pub OnceEach : List Sent → Type 0
+OnceEach [] = Unit {0}
+OnceEach (x ∷ xs) = (isSent (x .number) xs ≡ false) × OnceEach xs
+
+-- within the limits: 64 songs, the frames, and the bytes of a side with its two tables
+pub record WithinLimits (f : Format) (xs : List Sent) (limit : Frames) (room : ℕ) : Type 0 where
+  pub songs : length xs ≤ 64
+  pub frames : framesSent xs ≤ limit .0
+  pub fits : limit .0 < 4294967296
+  pub size : 68 + 36 * length xs + f .align * framesSent xs ≤ 1073741824
+  pub lent : 68 + 36 * length xs + f .align * framesSent xs ≤ room
+
+-- an empty side s then has exactly those songs, in that order
+pub record Complete (s t : List ℕ) (xs : List Sent) : Type 0 where
+  pub side : isSideFile t ≡ true
+  pub format : formatIn t ≡ formatIn s
+  pub songs : songsIn t ≡ inRow 0 xs
+
+unfoldable pub AllAdded : Type 0
+AllAdded =
+    (s : List ℕ) (xs : List Sent) (limit : Frames) (room : ℕ) → T (areBytes s) → isSideFile s ≡ true → songsIn s ≡ []
+    → AllSuitable (formatIn s) xs → OnceEach xs → WithinLimits (formatIn s) xs limit room
+    → Complete s (addAll limit room s xs) xs
+
+-- and a song that arrives twice is on the side once: the second time changes nothing
+unfoldable pub SentTwice : Type 0
+SentTwice =
+    (s : List ℕ) (x : Sent) (xs : List Sent) (limit : Frames) (room : ℕ) (n : BytePlace) → T (areBytes s) → Bytewise x
+    → limit .0 < 4294967296 → adding s (x .file) (x .number) limit room ≡ Bytes n
+    → addAll limit room s (x ∷ x ∷ xs) ≡ addAll limit room s (x ∷ xs)
+
+-- ---- an empty side that is written is one: a side, of those channels and that rate, without a song
+pub record Empty (s : List ℕ) (c r : ℕ) : Type 0 where
+  pub bytes : T (areBytes s)
+  pub side : isSideFile s ≡ true
+  pub channels : formatIn s .channels ≡ c
+  pub rate : formatIn s .rate ≡ r
+  pub songs : songsIn s ≡ []
+
+unfoldable pub EmptyMade : Type 0
+EmptyMade =
+    (channels rate room : ℕ) (n : BytePlace) → writing (emptySide channels rate) [] room ≡ written.Bytes n
+    → Empty (fileOf (emptySide channels rate) []) channels rate
+
+-- ---- the number of an answer, in the order of checks and the numbers of document 01; 0 where the song is added
+
+abbrev pub orElse : Verdict → ℕ → ℕ
+orElse verdict.Accepted n = n
+orElse (verdict.Refused r) n = numberOf r
+
+unfoldable pub Numbered : Type 0
+Numbered =
+    (s t : List ℕ) (number : Donation) (limit : Frames) (room : ℕ)
+    → addedNumber (adding s t number limit room)
+    ≡ orElse (reading t .verdict)
+    (cond (not (isSideFile s)) 19
+    (cond (not (suits (formatIn s) (formatIn t))) 9
+    (cond (eqb (framesIn t) 0) 16
+    (cond (isListed number (songsIn s)) (cond (sameBytes (listedSound number (songsIn s)) (soundIn t)) 18 16)
+    (cond (leb 64 (length (songsIn s)) || ltb (limit .0) (framesIn s + framesIn t)) 17
+    (cond (ltb 1073741824 (length (newFile s t number))) 1
+    (cond (ltb room (length (newFile s t number))) 14
+    0)))))))

@@ -1,0 +1,3 @@
+pub mod Side
+pub mod Adding
+pub mod Demands

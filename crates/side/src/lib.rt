@@ -1,0 +1,374 @@
+// Adding a song to a side, and an empty side to begin with.
+//
+// A side is one WAVE file with a cue point and a playlist entry for each song. A number that is listed is
+// never added again, and the songs that are there stay as they are. All is settled before the first store.
+// The sound is copied once; it is looked at only where the number is listed.
+use formats::Format;
+use rules::Reading;
+use rules::Record;
+use tables::Cue;
+use tables::Cues;
+use tables::Play;
+use tables::Playlist;
+use units::BytePlace;
+use units::Donation;
+use units::Frames;
+use units::Refusal;
+use units::Verdict;
+use writer::Written;
+ghost use mathlib.Core.Path.{_≡_};
+ghost use mathlib.Core.Bool.{true, _&&_};
+ghost use lib.Dec.{eqb};
+ghost use mathlib.Core.List.{[], _++_};
+ghost use Prim.Native.Nat.{_+_, _≤_, _<_};
+ghost use lib.ListN.{length, take};
+ghost use Rattle.writer.specs.File.{writing, fileOf};
+ghost use Rattle.writer.specs.File as file;
+ghost use Rattle.side.specs.Side.{sixteenBit, tiled, isSide, sideRead, framesAt, soundAt};
+ghost use Rattle.side.specs.Adding.{suits, hasPlace, onceMore, placeVerdict, addVerdict, withSong, newFile, told, answer, adding, holding, emptySide};
+
+// What adding answers: the number of bytes of the new file, or why there is none.
+pub enum Added {
+    Bytes(BytePlace),
+    Refused(Refusal),
+}
+
+// ---- a side
+
+// Whether sound is 16-bit PCM.
+fn is_sixteen_bit(format: Format) -> bool
+    ensures { λ r. ⌜ r ≡ sixteenBit format ⌝ }
+{
+    if format.tag != formats::PCM {
+        return false;
+    }
+    format.bits == 16
+}
+
+// Whether a cue stands where the song before it ended, and an entry plays it once.
+fn follows(cue: Cue, play: Play, end: u64) -> bool
+    ensures { λ r. ⌜ r ≡ (eqb (cue .place .0) end && eqb (play .name .0) (cue .name .0) && eqb (play .times) 1) ⌝ }
+{
+    if cue.place.0 as u64 != end {
+        return false;
+    }
+    if play.name.0 != cue.name.0 {
+        return false;
+    }
+    play.times == 1
+}
+
+// Whether the first n cues, each played once and whole by its entry, tile so many frames.
+fn tile(cues: [Cue; 64], plays: [Play; 64], n: usize, frames: Frames) -> bool
+    requires { ⌜ n ≤ 64 ⌝ }
+    ensures { λ r. ⌜ r ≡ tiled (take n cues) (take n plays) 0 (frames .0) ⌝ }
+{
+    let mut end: u64 = 0;
+    let mut i = 0;
+    while i < n {
+        let cue = cues[i];
+        let play = plays[i];
+        let next = follows(cue, play, end);
+        if !next {
+            return false;
+        }
+        end += play.length.0 as u64;
+        i += 1;
+    }
+    end == frames.0 as u64
+}
+
+// Whether the cues, each played once and whole by its entry, tile so many frames.
+fn tables_tile(cues: Cues, playlist: Playlist, frames: Frames) -> bool
+    requires { ⌜ (cues .count ≤ 64) × (playlist .count ≤ 64) ⌝ }
+    ensures { λ r. ⌜ r ≡ tiled (take (cues .count) (cues .list)) (take (playlist .count) (playlist .list)) 0 (frames .0) ⌝ }
+{
+    let cue_list = cues.list;
+    let play_list = playlist.list;
+    if cues.count != playlist.count {
+        return false;
+    }
+    tile(cue_list, play_list, cues.count as usize, frames)
+}
+
+// Whether a record is that of a side.
+fn is_side(made: Record) -> bool
+    requires { ⌜ (made .cues .count ≤ 64) × (made .playlist .count ≤ 64) ⌝ }
+    ensures { λ r. ⌜ r ≡ isSide made ⌝ }
+{
+    let format = made.format;
+    let cues = made.cues;
+    let playlist = made.playlist;
+    let sixteen = is_sixteen_bit(format);
+    if !sixteen {
+        return false;
+    }
+    tables_tile(cues, playlist, made.frames)
+}
+
+// Whether a file that was read is a side.
+fn side_read(side: Reading) -> bool
+    requires { ⌜ (side .made .cues .count ≤ 64) × (side .made .playlist .count ≤ 64) ⌝ }
+    ensures { λ r. ⌜ r ≡ sideRead side ⌝ }
+{
+    let verdict = side.verdict;
+    let made = side.made;
+    match verdict {
+        Verdict::Accepted => is_side(made),
+        Verdict::Refused(_) => false,
+    }
+}
+
+// ---- the verdict on adding
+
+// Whether a song can stand on a side: 16-bit PCM of its channels and rate.
+fn song_suits(side: Format, song: Format) -> bool
+    ensures { λ r. ⌜ r ≡ suits side song ⌝ }
+{
+    let sixteen = is_sixteen_bit(song);
+    if !sixteen {
+        return false;
+    }
+    if song.channels != side.channels {
+        return false;
+    }
+    song.rate == side.rate
+}
+
+// Whether there is place for one song more, of so many frames.
+fn has_place(made: Record, frames: Frames, limit: Frames) -> bool
+    ensures { λ r. ⌜ r ≡ hasPlace made frames limit ⌝ }
+{
+    let cues = made.cues;
+    if tables::MOST <= cues.count {
+        return false;
+    }
+    made.frames.0 as u64 + frames.0 as u64 <= limit.0 as u64
+}
+
+// The sound of so many frames from a place on, that very part of a sound.
+fn frames_at(format: Format, sound: &[u8], place: Frames, length: Frames) -> &[u8]
+    ensures { λ r. ⌜ now r ≡ framesAt format (now (sound .entry)) place length ⌝ }
+{
+    let frame = format.align as usize;
+    riff::bytes_from(sound, frame * place.0 as usize, frame * length.0 as usize)
+}
+
+// The sound of the song at index i of a side.
+fn song_sound(made: Record, sound: &[u8], i: usize) -> &[u8]
+    requires { ⌜ i < 64 ⌝ }
+    ensures { λ r. ⌜ now r ≡ soundAt made (now (sound .entry)) i ⌝ }
+{
+    let format = made.format;
+    let cues = made.cues;
+    let playlist = made.playlist;
+    let cue_list = cues.list;
+    let play_list = playlist.list;
+    let cue = cue_list[i];
+    let play = play_list[i];
+    frames_at(format, sound, cue.place, play.length)
+}
+
+// The verdict on a number that is listed: the song at index i has it.
+fn once_more(made: Record, sound: &[u8], i: usize, added: &[u8]) -> Verdict
+    requires { ⌜ i < 64 ⌝ }
+    ensures { λ r. ⌜ r ≡ onceMore (soundAt made (now (sound .entry)) i) (now (added .entry)) ⌝ }
+{
+    let listed = song_sound(made, sound, i);
+    let same = little::same_bytes(listed, added);
+    if same {
+        return Verdict::Refused(Refusal::AlreadyListed);
+    }
+    Verdict::Refused(Refusal::SongEmptyOrDifferent)
+}
+
+// The verdict on a song that suits a side: whether its number is listed, then whether it has place.
+fn settle_place(
+    made: Record,
+    sound: &[u8],
+    frames: Frames,
+    added: &[u8],
+    number: Donation,
+    limit: Frames,
+) -> Verdict
+    requires { ⌜ (made .cues .count ≤ 64) × (isSide made ≡ true) ⌝ }
+    ensures { λ r. ⌜ r ≡ placeVerdict made (now (sound .entry)) frames (now (added .entry)) number limit ⌝ }
+{
+    let cues = made.cues;
+    let found = tables::find_cue(cues, number);
+    if found < cues.count as usize {
+        return once_more(made, sound, found, added);
+    }
+    let place = has_place(made, frames, limit);
+    if !place {
+        return Verdict::Refused(Refusal::NoPlaceOnSide);
+    }
+    Verdict::Accepted
+}
+
+// The verdict on adding a song to a side: both as they were read, each with its sound.
+fn settle(
+    side: Reading,
+    sound: &[u8],
+    song: Reading,
+    added: &[u8],
+    number: Donation,
+    limit: Frames,
+) -> Verdict
+    requires { ⌜ (side .made .cues .count ≤ 64) × (side .made .playlist .count ≤ 64) ⌝ }
+    ensures { λ r. ⌜ r ≡ addVerdict side (now (sound .entry)) song (now (added .entry)) number limit ⌝ }
+{
+    let verdict = song.verdict;
+    let Verdict::Accepted = verdict else {
+        return verdict;
+    };
+    let right = side_read(side);
+    if !right {
+        return Verdict::Refused(Refusal::NotASide);
+    }
+    let old = side.made;
+    let new = song.made;
+    let suited = song_suits(old.format, new.format);
+    if !suited {
+        return Verdict::Refused(Refusal::FormatWrong);
+    }
+    if new.frames.0 < 1 {
+        return Verdict::Refused(Refusal::SongEmptyOrDifferent);
+    }
+    settle_place(old, sound, new.frames, added, number, limit)
+}
+
+// ---- the new side
+
+// The record of a side with one song more at the end.
+fn with_song(made: Record, number: Donation, frames: Frames) -> Record
+    requires { ⌜ (isSide made ≡ true) × (made .cues .count < 64) × (made .playlist .count ≤ 64) ⌝ }
+    requires { ⌜ made .frames .0 + frames .0 < 4294967296 ⌝ }
+    ensures { λ r. ⌜ r ≡ withSong made number frames ⌝ }
+{
+    let format = made.format;
+    let end = made.frames;
+    let cues = made.cues;
+    let playlist = made.playlist;
+    let cue = Cue {
+        name: number,
+        position: end,
+        place: end,
+    };
+    let play = Play {
+        name: number,
+        length: frames,
+        times: 1,
+    };
+    Record {
+        format: format,
+        frames: Frames(end.0 + frames.0),
+        cues: tables::with_cue(cues, cue),
+        playlist: tables::with_play(playlist, play),
+    }
+}
+
+// Writes a side with one song more, whose sound follows the old one.
+fn join(
+    made: Record,
+    sound: &[u8],
+    number: Donation,
+    frames: Frames,
+    added: &[u8],
+    out: &mut [u8],
+) -> Added
+    requires { ⌜ (isSide made ≡ true) × (made .cues .count < 64) × (made .playlist .count ≤ 64) ⌝ }
+    requires { ⌜ made .frames .0 + frames .0 < 4294967296 ⌝ }
+    ensures { λ r. ⌜ (r ≡ told (writing (withSong made number frames) (now (sound .entry) ++ now (added .entry)) (length (now (out .entry)))))
+        × (now (out .exit) ≡ holding r (fileOf (withSong made number frames) (now (sound .entry) ++ now (added .entry))) (now (out .entry))) ⌝ }
+{
+    let grown = with_song(made, number, frames);
+    match writer::write_joined(grown, sound, added, out) {
+        Written::Bytes(size) => Added::Bytes(size),
+        Written::Refused(refusal) => Added::Refused(refusal),
+    }
+}
+
+// Adds a song to a side: both as they were read, each with its sound.
+fn add_read(
+    side: Reading,
+    sound: &[u8],
+    song: Reading,
+    added: &[u8],
+    number: Donation,
+    limit: Frames,
+    out: &mut [u8],
+) -> Added
+    requires { ⌜ (side .made .cues .count ≤ 64) × (side .made .playlist .count ≤ 64) ⌝ }
+    ensures { λ r. ⌜ (r ≡ answer (addVerdict side (now (sound .entry)) song (now (added .entry)) number limit)
+        (writing (withSong (side .made) number (song .made .frames)) (now (sound .entry) ++ now (added .entry)) (length (now (out .entry)))))
+        × (now (out .exit) ≡ holding r (fileOf (withSong (side .made) number (song .made .frames)) (now (sound .entry) ++ now (added .entry))) (now (out .entry))) ⌝ }
+{
+    let old = side.made;
+    let new = song.made;
+    let verdict = settle(side, sound, song, added, number, limit);
+    match verdict {
+        Verdict::Refused(refusal) => Added::Refused(refusal),
+        Verdict::Accepted => join(old, sound, number, new.frames, added, out),
+    }
+}
+
+// Adds a song to a side: the new side is written from the start of a lent buffer.
+pub fn add(side: &[u8], song: &[u8], number: Donation, limit: Frames, out: &mut [u8]) -> Added
+    ensures { λ r. ⌜ (r ≡ adding (now (side .entry)) (now (song .entry)) number limit (length (now (out .entry))))
+        × (now (out .exit) ≡ holding r (newFile (now (side .entry)) (now (song .entry)) number) (now (out .entry))) ⌝ }
+{
+    let opened = reader::open(side);
+    let sent = reader::open(song);
+    let old = opened.answer;
+    let new = sent.answer;
+    let spot = opened.sound;
+    let sent_spot = sent.sound;
+    let sound = riff::part(side, spot, b"");
+    let added = riff::part(song, sent_spot, b"");
+    add_read(old, sound, new, added, number, limit, out)
+}
+
+// ---- an empty side
+
+// The record of an empty side.
+fn empty_record(channels: u16, rate: u32) -> Record
+    requires { ⌜ channels ≤ 2 ⌝ }
+    ensures { λ r. ⌜ r ≡ emptySide channels rate ⌝ }
+{
+    let format = Format {
+        tag: formats::PCM,
+        channels: channels,
+        rate: rate,
+        bits: 16,
+        align: 2 * channels,
+        samples: 1,
+    };
+    let cues = Cues {
+        count: 0,
+        list: tables::no_cues(),
+    };
+    let playlist = Playlist {
+        count: 0,
+        list: tables::no_plays(),
+    };
+    Record {
+        format: format,
+        frames: Frames(0),
+        cues: cues,
+        playlist: playlist,
+    }
+}
+
+// Writes an empty side of some channels and a rate, from the start of a lent buffer.
+pub fn empty(channels: u16, rate: u32, out: &mut [u8]) -> Written
+    ensures { λ r. ⌜ (r ≡ writing (emptySide channels rate) [] (length (now (out .entry))))
+        × (now (out .exit) ≡ file.holding r (fileOf (emptySide channels rate) []) (now (out .entry))) ⌝ }
+{
+    // So that the align fits; more channels are refused as writing refuses them.
+    if 2 < channels {
+        return Written::Refused(Refusal::FormatWrong);
+    }
+    let made = empty_record(channels, rate);
+    writer::write(made, b"", out)
+}

@@ -1,0 +1,154 @@
+// Adds each song on standard input to its side, under its label, and then once more to the new side. An entry of
+// the input is six numbers, the label, the side file and the song file; all in 65,536 bytes. The numbers are: the
+// length of the label; the room in bytes, at most 16,384; the lengths of the side file and the song file, all in two
+// bytes each; the song's number and the limit in frames, in four each. Where both files have no bytes, an empty side
+// is made: the number is its channels, the limit its rate.
+//
+// It prints the answer; the file, or of more than 128 bytes a number mixed of them; whether the rest of the lent
+// buffer is untouched, where each byte was 170; and of a song that was added the number of the refusal when the same
+// is asked of the new side, in 16,384 bytes, or 0 where it is taken again.
+use libc::STDIN_FILENO;
+use side::Added;
+use units::Donation;
+use units::Frames;
+use units::Refusal;
+use writer::Written;
+ghost use Prim.Native.Nat.{_-_, _≤_};
+ghost use lib.ListN.{length};
+
+// ---- what is printed
+
+// A file, or a number mixed of it.
+fn file_line(file: &[u8]) {
+    if 128 < file.len() {
+        show::field(b"mixed ", show::mixed_bytes(file));
+    } else {
+        show::word(b"file");
+        show::bytes(file);
+    }
+    show::line();
+}
+
+// Whether what nothing was written to is as it was.
+fn rest_line(rest: &[u8]) {
+    let before = [170u8; 16384];
+    let n = rest.len();
+    show::field(b"rest ", n as u64);
+    show::either(
+        check::same(rest, riff::bytes_from(&before, 0, n)),
+        b" untouched",
+        b" changed",
+    );
+}
+
+// A refusal, and the lent buffer.
+fn refused_lines(refusal: Refusal, out: &[u8]) {
+    listing::refused(refusal);
+    rest_line(out);
+}
+
+// What was written to a lent buffer.
+fn written_lines(size: usize, out: &[u8]) {
+    show::field(b"bytes ", size as u64);
+    show::line();
+    file_line(riff::bytes_from(out, 0, size));
+    rest_line(entries::past(out, size));
+}
+
+// ---- adding
+
+// The number of a refusal, or 0 for a new side.
+fn number_of(added: Added) -> u64 {
+    match added {
+        Added::Bytes(_) => 0,
+        Added::Refused(refusal) => units::number(refusal) as u64,
+    }
+}
+
+// What comes of a song that is added once more.
+fn again_line(old: &[u8], song: &[u8], number: Donation, limit: Frames) {
+    let mut out = [170u8; 16384];
+    let added = side::add(old, song, number, limit, &mut out);
+    show::field(b"again ", number_of(added));
+    show::line();
+}
+
+// A new side in a lent buffer, and what comes of the same song again.
+fn added_lines(size: usize, out: &[u8], song: &[u8], number: Donation, limit: Frames) {
+    written_lines(size, out);
+    again_line(riff::bytes_from(out, 0, size), song, number, limit);
+}
+
+// Adds a song to a side, in a lent buffer.
+fn add(old: &[u8], song: &[u8], number: Donation, limit: Frames, out: &mut [u8]) {
+    match side::add(old, song, number, limit, out) {
+        Added::Bytes(size) => added_lines(size.0, out, song, number, limit),
+        Added::Refused(refusal) => refused_lines(refusal, out),
+    }
+}
+
+// Makes an empty side in a lent buffer.
+fn start(channels: u16, rate: u32, out: &mut [u8]) {
+    match side::empty(channels, rate, out) {
+        Written::Bytes(size) => written_lines(size.0, out),
+        Written::Refused(refusal) => refused_lines(refusal, out),
+    }
+}
+
+// ---- the entries
+
+// Whether an entry asks for an empty side.
+fn starts(old: &[u8], song: &[u8]) -> bool {
+    old.len() == 0 && song.len() == 0
+}
+
+// Does what an entry asks for, in a lent buffer.
+fn work(head: &[u8], old: &[u8], song: &[u8], out: &mut [u8]) {
+    if starts(old, song) {
+        start(
+            little::u16_or_zero(head, 8),
+            little::u32_or_zero(head, 12),
+            out,
+        );
+        return;
+    }
+    add(
+        old,
+        song,
+        Donation(little::u32_or_zero(head, 8)),
+        Frames(little::u32_or_zero(head, 12)),
+        out,
+    );
+}
+
+// The same in as many bytes as the entry says.
+fn work_in(head: &[u8], old: &[u8], song: &[u8]) {
+    let mut out = [170u8; 16384];
+    let room = io::count(little::u16_or_zero(head, 2) as isize, &out);
+    work(head, old, song, &mut out[..room]);
+}
+
+// Works on the first entry of a table, and hands out those that follow.
+fn entry(table: &[u8]) -> &[u8]
+    ensures { λ r. ⌜ length (now r) ≤ length (now (table .entry)) - 1 ⌝ }
+{
+    let old = little::u16_or_zero(table, 4) as usize;
+    let song = little::u16_or_zero(table, 6) as usize;
+    let rest = entries::labelled(table, 16);
+    work_in(
+        table,
+        riff::bytes_from(rest, 0, old),
+        riff::bytes_from(rest, old, song),
+    );
+    entries::past(rest, old + song)
+}
+
+fn main() {
+    let mut buffer = [0u8; 65536];
+    let n = io::read_full(STDIN_FILENO, &mut buffer);
+    let mut table = &buffer[..n];
+    while 0 < table.len() {
+        let rest = entry(table);
+        table = rest;
+    }
+}
