@@ -4,8 +4,12 @@
     tests/other_songs.py        prints what must come of each, first on an empty side, then on a side that is kept
 
 The files stand in crates/other_programs/data and crates/sound_other/data, the sides in crates/written_other/data. Each
-is added under the number 7 and without a limit. Format and frames are as the program that made the file reports them,
-or the sound as sox hears it; the bytes of the new side are by the second way to add, which must agree.
+is added under the number 7, within a limit of 1,000,000 frames. Format and frames are as the program that made the
+file reports them, or the sound as sox hears it; the bytes of the new side are by the second way to add, which must
+agree.
+
+`rt` runs a program on its own data/ alone, so crates/side_other/data has all files that are added once more, and a few
+that are refused; tests/programs.py takes all of other_programs/data from where they stand.
 """
 import pathlib
 
@@ -15,8 +19,8 @@ import second_side
 from second_reader import mixed
 
 CRATES = pathlib.Path(__file__).resolve().parent.parent / 'crates'
-HEARD, SIDES = CRATES / 'sound_other' / 'data', CRATES / 'written_other' / 'data'
-NUMBER, LIMIT, ROOM = 7, 2**32 - 1, 65536
+HEARD, SIDES, DATA = (CRATES / name / 'data' for name in ('sound_other', 'written_other', 'side_other'))
+NUMBER, LIMIT, ROOM = 7, 1000000, 65536
 
 # A side, a song, and the answer by hand: a refusal's number, or the frames and the songs of the new side.
 ONTO = [
@@ -49,6 +53,15 @@ def on_empty(file):
     return second_side.check(second_side.empty(channels, rate)[1], file, NUMBER, LIMIT, ROOM)
 
 
+def added(file):
+    """What `side_other` must print of a file."""
+    kind, made = on_empty(file)
+    lines = lines_of(kind, made)
+    if kind == 'bytes':
+        lines.append('again {} {}'.format(*second_side.add(made, file, NUMBER, LIMIT, ROOM)))
+    return lines
+
+
 def reported(text):
     """What must be printed, but for the bytes, of a file whose listing by another program's report is this."""
     first, *_ = text.splitlines()
@@ -78,8 +91,25 @@ def by_ear():
         yield path.name, lines_of(kind, made)
 
 
+def expected():
+    """Yields the name of each file of side_other/data and what `side_other` must print of it; each is as it was made."""
+    said = dict([*by_report(), *by_ear()])
+    kept = sorted(path.name for path in DATA.glob('*.wav'))
+    if not {name for name, lines in said.items() if len(lines) > 1} < set(kept):
+        raise ValueError('files are missing in side_other/data')
+    for name in kept:
+        first = next(folder / name for folder in (other_programs.DATA, HEARD) if (folder / name).exists())
+        file = (DATA / name).read_bytes()
+        if file != first.read_bytes():
+            raise ValueError(f'{name} is not as it stands in {first.parent.parent.name}')
+        lines = said[name] + ['again refused 18'] * (len(said[name]) > 1)
+        if lines != added(file):
+            raise ValueError(f'{name}: it must be {lines}, the second way to add says {added(file)}')
+        yield name, lines
+
+
 def onto():
-    """The names of each side and song of the table above, and what must be printed."""
+    """A label, the side and the song of each row of the table above, whose answer must be the one by hand."""
     for side, song, said in ONTO:
         kind, made = second_side.check(side.read_bytes(), song.read_bytes(), NUMBER, LIMIT, ROOM)
         answer = made
@@ -88,12 +118,14 @@ def onto():
             answer = sum(listed.length for listed in held), len(held)
         if answer != said:
             raise ValueError(f'{song.name} onto {side.name}: by hand it is {said}, the second way to add says {answer}')
-        yield f'{side.name} {song.name}', lines_of(kind, made)
+        yield f'{song.name} onto {side.name}', side.read_bytes(), song.read_bytes()
 
 
 def main():
-    for name, lines in (*by_report(), *by_ear(), *onto()):
+    for name, lines in (*by_report(), *by_ear()):
         print(name, *lines, sep='\n')
+    for label, side, song in onto():
+        print(label, *lines_of(*second_side.add(side, song, NUMBER, LIMIT, ROOM)), sep='\n')
 
 
 if __name__ == '__main__':

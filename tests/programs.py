@@ -17,6 +17,7 @@ import approval_copies
 import ima_sounds
 import many_files
 import other_programs
+import other_songs
 import second_reader
 import side_files
 import sound_files
@@ -77,6 +78,12 @@ def read_files(count, seed):
         yield wave_files.labelled(str(place), file), [str(place)] + listed + left_out
 
 
+def other_sides():
+    """The sides and songs of tests/other_songs.py as entries of side_vectors."""
+    for label, side, song in other_songs.onto():
+        yield side_files.vector(label, side, song, other_songs.NUMBER, other_songs.LIMIT, side_files.ROOM)
+
+
 def batches(vectors):
     """The entries of a program's input, as many at a time as it takes, and what it must write."""
     data, lines = b'', []
@@ -101,14 +108,14 @@ def unlike(name, vectors):
         yield from differences(run(name, input=data).splitlines(), lines)
 
 
-def unlike_again(files):
-    """The lines on which `written_other` and the second reader and writer differ; it takes names of files."""
+def unlike_named(program, files, lines_of):
+    """The same of a program that takes names of files; lines_of gives what it must write of a file."""
     named = {str(place): file for place, file in enumerate(files)}
     with tempfile.TemporaryDirectory() as folder:
         for name, file in named.items():
             pathlib.Path(folder, name).write_bytes(file)
-        wrote = run('written_other', *named, cwd=folder).splitlines()
-    return differences(wrote, [line for name, file in named.items() for line in (name, *written_files.again(file))])
+        wrote = run(program, *named, cwd=folder).splitlines()
+    return differences(wrote, [line for name, file in named.items() for line in (name, *lines_of(file))])
 
 
 def files_again(count, seed):
@@ -124,10 +131,11 @@ def main(count=20000, seed=1):
     generated = {'reader_vectors': read_files(count, seed), 'ima_vectors': ima_sounds.many(count // 10, seed),
                  'sound_vectors': sound_files.many(count // 10, seed),
                  'writer_vectors': writer_records.many(count // 10, seed),
-                 'side_vectors': side_files.many(count // 10, seed),
+                 'side_vectors': [*other_sides(), *side_files.many(count // 10, seed)],
                  'approval_vectors': approval_copies.many(count // 10, seed)}
     unlikes = {name: unlike(name, vectors) for name, vectors in generated.items()}
-    unlikes['written_other'] = unlike_again(files_again(count // 10, seed))
+    unlikes['written_other'] = unlike_named('written_other', files_again(count // 10, seed), written_files.again)
+    unlikes['side_other'] = unlike_named('side_other', files_again(count // 10, seed), other_songs.added)
     wrong += [f'{name} wrote {wrote!r}, in Python it is {expected!r}'
               for name, pairs in unlikes.items() for wrote, expected in pairs]
     for line in wrong[:20]:

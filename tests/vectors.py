@@ -14,10 +14,12 @@ import sys
 import approval_copies
 import ima_sounds
 import other_programs
+import other_songs
 import second_ima
 import second_reader
 import second_sound
 import side_files
+import side_story
 import sound_files
 import wave_files
 import writer_records
@@ -200,10 +202,20 @@ def sound_other():
     return b'', '\n'.join(lines) + '\n', names
 
 
+def named(files):
+    """For a program that takes names of files: no input, the lines under each name, and the names."""
+    files = list(files)
+    return b'', ''.join(f'{line}\n' for name, lines in files for line in (name, *lines)), [name for name, _ in files]
+
+
 def written_other():
     """The files of tests/written_files.py, which must come out as they stand, and files of other programs."""
-    files = list(written_files.expected())
-    return b'', ''.join(f'{line}\n' for name, lines in files for line in (name, *lines)), [name for name, _ in files]
+    return named(written_files.expected())
+
+
+def side_other():
+    """The files of other programs that tests/other_songs.py adds to sides."""
+    return named(other_songs.expected())
 
 
 def programs():
@@ -216,6 +228,8 @@ def programs():
     made['ima_other'] = ima_other()
     made['sound_other'] = sound_other()
     made['written_other'] = written_other()
+    made['side_other'] = side_other()
+    made['side_story'] = b'', '\n'.join(side_story.lines()) + '\n', None
     return made
 
 

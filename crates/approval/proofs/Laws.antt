@@ -1,19 +1,17 @@
 -- The record of an approval copy, in the words of the code. Assumes nothing.
 use mathlib.Core.Path.{_≡_, ap, _∙_, sym}
 use mathlib.Core.Bool.{Bool, true, false, cond}
-use mathlib.Core.List.{List}
 use Prim.Native.Nat.{ℕ, _+_, _-_, _*_, _/_, _≤_}
 use native.Mathlib.Nat.{div-le-self}
 use native.Mathlib.Omega.{arith}
-use lib.ListN.{replicate}
 use mir.Syntax.{w16}
 use mir.Val.{Fits}
 use borrow.Author.Tests.{not-true, not-false}
 use Rattle.units.specs.declared.Frames.{Frames}
-use Rattle.tables.specs.declared.Cue.{Cue}
-use Rattle.tables.specs.declared.Play.{Play}
-use Rattle.tables.specs.Cues.{noCue}
-use Rattle.tables.specs.Plays.{noPlay}
+use Rattle.tables.specs.declared.Cues.{Cues}
+use Rattle.tables.specs.declared.Playlist.{Playlist}
+use Rattle.tables.specs.Cues.{noCues}
+use Rattle.tables.specs.Plays.{noPlays}
 use Rattle.blocks.specs.Block.{samplesPerBlock}
 use Rattle.ima.specs.Encoding.{codable}
 use Rattle.ima.proofs.Settling.{codable-says, fine-some, fine-room, fine-most}
@@ -43,13 +41,13 @@ module _ (c a : ℕ) {r : Bool} (e : r ≡ codable c a) where
 pub ruleset counting = (samples-none, head-fits, codes-fit, samples-fit, samples-are, fine-some, fine-room, fine-most, not-true, not-false)
 
 -- ---- the record
-pub record-made : (c rate a : ℕ) (frames : Frames) {n : ℕ} {l : List Cue} {p : List Play} → n ≡ samplesOf c a
-    → l ≡ replicate 64 noCue → p ≡ replicate 64 noPlay
+pub record-made : (c rate a : ℕ) (frames : Frames) {n : ℕ} {l : Cues} {p : Playlist} → n ≡ samplesOf c a
+    → l ≡ noCues → p ≡ noPlays
     → record {
       format = record { tag = 17; channels = c; rate = rate; bits = 4; align = a; samples = n };
       frames = frames;
-      cues = record { count = 0; list = l };
-      playlist = record { count = 0; list = p };
+      cues = l;
+      playlist = p;
     } ≡ approvalRecord c rate a frames
 unfolding approvalRecord approvalFormat
 record-made c rate a frames e f g = simp (e, f, g)

@@ -1,11 +1,10 @@
 -- The record of an approval copy. Assumes nothing.
 use Prim.Native.Nat.{ℕ}
 use mathlib.Core.Bool.{cond}
-use lib.ListN.{replicate}
 use Rattle.units.specs.declared.Frames.{Frames}
 use Rattle.formats.specs.declared.Format.{Format}
-use Rattle.tables.specs.Cues.{noCue}
-use Rattle.tables.specs.Plays.{noPlay}
+use Rattle.tables.specs.Cues.{noCues}
+use Rattle.tables.specs.Plays.{noPlays}
 use Rattle.rules.specs.declared.Record.{Record}
 use Rattle.blocks.specs.Block.{samplesPerBlock}
 use Rattle.ima.specs.Encoding.{codable}
@@ -24,6 +23,6 @@ approvalRecord c rate a frames =
     record {
       format = approvalFormat c rate a;
       frames = frames;
-      cues = record { count = 0; list = replicate 64 noCue };
-      playlist = record { count = 0; list = replicate 64 noPlay };
+      cues = noCues;
+      playlist = noPlays;
     }

@@ -2,8 +2,6 @@
 use formats::Format;
 use formats::IMA;
 use rules::Record;
-use tables::Cues;
-use tables::Playlist;
 use units::Frames;
 ghost use mathlib.Core.Path.{_≡_};
 ghost use Rattle.approval.specs.Approval.{samplesOf, approvalRecord};
@@ -33,18 +31,10 @@ pub fn record_of(channels: u16, rate: u32, align: u16, frames: Frames) -> Record
         align: align,
         samples: samples_of(channels, align),
     };
-    let cues = Cues {
-        count: 0,
-        list: tables::no_cues(),
-    };
-    let playlist = Playlist {
-        count: 0,
-        list: tables::no_plays(),
-    };
     Record {
         format: format,
         frames: frames,
-        cues: cues,
-        playlist: playlist,
+        cues: tables::no_cues(),
+        playlist: tables::no_plays(),
     }
 }

@@ -3,7 +3,6 @@ use mathlib.Core.Path.{_≡_, sym, ap, _∙_}
 use mathlib.Core.Bool.{Bool, true, false, not}
 use mathlib.Core.List.{List}
 use Prim.Native.Nat.{ℕ}
-use lib.ListN.{replicate}
 use borrow.Author.Tests.{not-true, not-false}
 use Rattle.units.specs.declared.BytePlace.{BytePlace}
 use Rattle.units.specs.declared.Frames.{Frames}
@@ -14,12 +13,10 @@ use Rattle.units.specs.declared.Verdict.the-variants.{Accepted, Refused}
 use Rattle.formats.specs.declared.Format.{Format}
 use Rattle.formats.specs.Format.{formatOf, formatRule}
 use Rattle.formats.specs.Frames.{wholeBlocks, framesOf, framesRule}
-use Rattle.tables.specs.declared.Cue.{Cue}
 use Rattle.tables.specs.declared.Cues.{Cues}
-use Rattle.tables.specs.declared.Play.{Play}
 use Rattle.tables.specs.declared.Playlist.{Playlist}
-use Rattle.tables.specs.Cues.{noCue, cuesOf, cuesRule}
-use Rattle.tables.specs.Plays.{noPlay, playsOf, playsRule}
+use Rattle.tables.specs.Cues.{noCues, cuesOf, cuesRule}
+use Rattle.tables.specs.Plays.{noPlays, playsOf, playsRule}
 use Rattle.rules.specs.declared.Record.{Record}
 use Rattle.rules.specs.declared.Reading.{Reading}
 use Rattle.rules.specs.Rules.{fine, formatFine, factFine, cuesFine, playsFine, inOrder, verdictOf, recordVerdict, recordOf, blank, turnedAway, answer, judged}
@@ -37,12 +34,12 @@ module _ (form rule : Bool) {x : Bool} (e : x ≡ form) where
 pub ruleset fineness = (fine-no, fine-yes)
 
 -- ---- the record and a refused answer
-pub blank-made : {c : List Cue} {p : List Play} → c ≡ replicate 64 noCue → p ≡ replicate 64 noPlay
+pub blank-made : {c : Cues} {p : Playlist} → c ≡ noCues → p ≡ noPlays
     → record {
       format = record { tag = 0; channels = 0; rate = 0; bits = 0; align = 0; samples = 0 };
       frames = record { 0 = 0 };
-      cues = record { count = 0; list = c };
-      playlist = record { count = 0; list = p };
+      cues = c;
+      playlist = p;
     } ≡ blank
 blank-made e f = simp (e, f)
 

@@ -3,7 +3,6 @@ use Prim.Native.Nat.{ℕ}
 use mathlib.Core.Path.{_≡_}
 use mathlib.Core.Bool.{Bool, true, _&&_}
 use mathlib.Core.List.{List}
-use lib.ListN.{replicate}
 use Rattle.units.specs.declared.BytePlace.{BytePlace}
 use Rattle.units.specs.declared.Frames.{Frames}
 use Rattle.units.specs.declared.Refusal.{Refusal}
@@ -16,8 +15,8 @@ use Rattle.formats.specs.Format.{formatOf, formatForm, formatRule}
 use Rattle.formats.specs.Frames.{wholeBlocks, framesOf, factForm, framesRule}
 use Rattle.tables.specs.declared.Cues.{Cues}
 use Rattle.tables.specs.declared.Playlist.{Playlist}
-use Rattle.tables.specs.Cues.{noCue, cuesOf, cuesForm, cuesRule}
-use Rattle.tables.specs.Plays.{noPlay, playsOf, playsForm, playsRule}
+use Rattle.tables.specs.Cues.{noCues, cuesOf, cuesForm, cuesRule}
+use Rattle.tables.specs.Plays.{noPlays, playsOf, playsForm, playsRule}
 use Rattle.rules.specs.declared.Record.{Record}
 use Rattle.rules.specs.declared.Reading.{Reading}
 
@@ -86,8 +85,8 @@ blank =
     record {
       format = record { tag = 0; channels = 0; rate = 0; bits = 0; align = 0; samples = 0 };
       frames = record { 0 = 0 };
-      cues = record { count = 0; list = replicate 64 noCue };
-      playlist = record { count = 0; list = replicate 64 noPlay };
+      cues = noCues;
+      playlist = noPlays;
     }
 
 -- a refused file: its refusal, and no record

@@ -39,19 +39,11 @@ fn blank_record() -> Record
         align: 0,
         samples: 0,
     };
-    let cues = Cues {
-        count: 0,
-        list: tables::no_cues(),
-    };
-    let playlist = Playlist {
-        count: 0,
-        list: tables::no_plays(),
-    };
     Record {
         format: format,
         frames: Frames(0),
-        cues: cues,
-        playlist: playlist,
+        cues: tables::no_cues(),
+        playlist: tables::no_plays(),
     }
 }
 

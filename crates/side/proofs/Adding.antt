@@ -4,7 +4,6 @@ use mathlib.Core.Bool.{Bool, true, false}
 use mathlib.Core.List.{List, [], _++_}
 use Prim.Native.Nat.{ℕ, _+_, _*_, _≤_, _<_}
 use native.Mathlib.Omega.{arith}
-use lib.ListN.{replicate}
 use mir.Syntax.{w32}
 use mir.Val.{Fits}
 use Rattle.little.specs.Writing.{front}
@@ -17,10 +16,10 @@ use Rattle.units.specs.declared.Verdict.{Verdict}
 use Rattle.units.specs.declared.Verdict.the-variants as verdict
 use Rattle.formats.specs.Format.{formatRule}
 use Rattle.formats.proofs.Taken.{taken-two}
-use Rattle.tables.specs.declared.Cue.{Cue}
-use Rattle.tables.specs.declared.Play.{Play}
-use Rattle.tables.specs.Cues.{noCue}
-use Rattle.tables.specs.Plays.{noPlay}
+use Rattle.tables.specs.declared.Cues.{Cues}
+use Rattle.tables.specs.declared.Playlist.{Playlist}
+use Rattle.tables.specs.Cues.{noCues}
+use Rattle.tables.specs.Plays.{noPlays}
 use Rattle.tables.proofs.BehindRules.{cues-few, plays-few}
 use Rattle.rules.specs.declared.Record.{Record}
 use Rattle.rules.specs.declared.Reading.{Reading}
@@ -117,12 +116,12 @@ read-plays s e = rw e (read-few s .1)
 pub ruleset file-added = (sound-placed, added, new-held, read-cues, read-plays)
 
 -- ---- an empty side
-pub empty-made : (channels rate : ℕ) {c : List Cue} {p : List Play} → c ≡ replicate 64 noCue → p ≡ replicate 64 noPlay
+pub empty-made : (channels rate : ℕ) {c : Cues} {p : Playlist} → c ≡ noCues → p ≡ noPlays
     → record {
       format = record { tag = 1; channels = channels; rate = rate; bits = 16; align = 2 * channels; samples = 1 };
       frames = record { 0 = 0 };
-      cues = record { count = 0; list = c };
-      playlist = record { count = 0; list = p };
+      cues = c;
+      playlist = p;
     } ≡ emptySide channels rate
 unfolding emptySide
 empty-made channels rate e f = simp (e, f)

@@ -4,7 +4,9 @@ use mathlib.Core.Bool.{true}
 use mathlib.Core.List.{List, [], _∷_, _++_, append-assoc, append-nil}
 use Prim.Native.Nat.{ℕ, _+_, _*_}
 use native.Mathlib.Omega.{arith}
+use lib.Dec.{T}
 use lib.ListN.{length, take}
+use lib.Pow.{areBytes}
 use borrow.Author.Tests.{eqb-true}
 use Rattle.units.specs.declared.BytePlace.{BytePlace}
 use Rattle.units.specs.declared.Frames.{Frames}
@@ -14,12 +16,12 @@ use Rattle.side.specs.declared.Added.{Added}
 use Rattle.side.specs.declared.Added.the-variants.{Bytes, Refused}
 use Rattle.side.specs.Side.{Song, cueList, playList, tiled, songsHeld, isSideFile, songsIn}
 use Rattle.side.specs.Adding.{newFile, adding}
-use Rattle.side.specs.Demands.{framesIn, formatIn, Sent, songFrom, AddedAgain, sideAfter, addAll, inRow, framesSent, AllAdded, SentTwice}
+use Rattle.side.specs.Demands.{framesIn, formatIn, Sent, songFrom, AddedAgain, sideAfter, addAll, inRow, framesSent, Grown, Grows, AllBytewise, Keeps, NoneLost, AllAdded, SentTwice}
 use Rattle.side.proofs.Songs.{side-tiled}
 use Rattle.side.proofs.Growing.{Standing, counts-same, songs-count}
 use Rattle.side.proofs.Answers.{added-says}
 use Rattle.side.proofs.Sides.{standing}
-use Rattle.side.proofs.Demands.{added-again}
+use Rattle.side.proofs.Demands.{grows, added-again}
 use Rattle.side.proofs.Ready.{NoneListed, none-first, Ready, first-written, first-grown, next-ready}
 
 -- ---- the first of a list, where it is added
@@ -40,6 +42,27 @@ sent-twice s x xs limit room n b y l e =
     first-added limit room s x (x ∷ xs) e
     ∙ ap (λ (a : Added). addAll limit room (sideAfter a new (newFile new (x .file) (x .number))) xs) r
     ∙ sym (first-added limit room s x xs e)
+
+-- ---- whatever is sent
+pub none-lost : NoneLost
+unfolding NoneLost AllBytewise addAll Grows
+none-lost [] s limit room b e y l = record { side = e; more = []; songs = sym (append-nil (songsIn s)) }
+none-lost (x ∷ xs) s limit room b e y l =
+    by (adding s (x .file) (x .number) limit room) refl (λ t c f. none-lost xs t limit room c f (y .1) l)
+  where
+    by : (a : Added) → adding s (x .file) (x .number) limit room ≡ a
+        → ((t : List ℕ) → T (areBytes t) → isSideFile t ≡ true → Keeps t (addAll limit room t xs))
+        → Keeps s (addAll limit room (sideAfter a s (newFile s (x .file) (x .number))) xs)
+    by (Bytes n) h next =
+        let g : Grown s x n = grows s x limit room n b (y .0) l h in
+        let k = next (newFile s (x .file) (x .number)) (g .bytes) (g .side) in
+        let one : List Song = songFrom (framesIn s) x ∷ [] in
+        record {
+          side = k .side;
+          more = one ++ k .more;
+          songs = k .songs ∙ ap (λ (ys : List Song). ys ++ k .more) (g .songs) ∙ append-assoc (songsIn s) one (k .more);
+        }
+    by (Refused r) h next = next s b e
 
 -- ---- along the list
 record Reached (s t : List ℕ) (xs : List Sent) : Type 0 where

@@ -3,7 +3,6 @@ use Prim.Native.Nat.{ℕ, _+_, _*_}
 use mathlib.Core.Bool.{Bool, cond, _&&_}
 use mathlib.Core.List.{List, _++_}
 use lib.Dec.{eqb, ltb, leb}
-use lib.ListN.{replicate}
 use Rattle.little.specs.Same.{sameBytes}
 use Rattle.little.specs.Writing.{front}
 use Rattle.units.specs.declared.Donation.{Donation}
@@ -13,8 +12,8 @@ use Rattle.units.specs.declared.Verdict.{Verdict}
 use Rattle.units.specs.declared.Verdict.the-variants as verdict
 use Rattle.units.specs.Refusals.{numberOf, demand}
 use Rattle.formats.specs.declared.Format.{Format}
-use Rattle.tables.specs.Cues.{noCue}
-use Rattle.tables.specs.Plays.{noPlay}
+use Rattle.tables.specs.Cues.{noCues}
+use Rattle.tables.specs.Plays.{noPlays}
 use Rattle.tables.specs.More.{cuesWith, playsWith}
 use Rattle.rules.specs.declared.Record.{Record}
 use Rattle.rules.specs.declared.Reading.{Reading}
@@ -111,6 +110,6 @@ emptySide channels rate =
     record {
       format = record { tag = 1; channels = channels; rate = rate; bits = 16; align = 2 * channels; samples = 1 };
       frames = record { 0 = 0 };
-      cues = record { count = 0; list = replicate 64 noCue };
-      playlist = record { count = 0; list = replicate 64 noPlay };
+      cues = noCues;
+      playlist = noPlays;
     }

@@ -162,6 +162,21 @@ AllAdded =
     → AllSuitable (formatIn s) xs → OnceEach xs → WithinLimits (formatIn s) xs limit room
     → Complete s (addAll limit room s xs) xs
 
+-- whatever is sent, however often and in whatever order: the songs that a side s has stay on it, first, in order and unchanged
+pub record Keeps (s t : List ℕ) : Type 0 where
+  pub side : isSideFile t ≡ true
+  pub more : List Song
+  pub songs : songsIn t ≡ songsIn s ++ more
+
+unfoldable pub AllBytewise : List Sent → Type 0
+AllBytewise [] = Unit {0}
+AllBytewise (x ∷ xs) = Bytewise x × AllBytewise xs
+
+unfoldable pub NoneLost : Type 0
+NoneLost =
+    (xs : List Sent) (s : List ℕ) (limit : Frames) (room : ℕ) → T (areBytes s) → isSideFile s ≡ true → AllBytewise xs
+    → limit .0 < 4294967296 → Keeps s (addAll limit room s xs)
+
 -- and a song that arrives twice is on the side once: the second time changes nothing
 unfoldable pub SentTwice : Type 0
 SentTwice =

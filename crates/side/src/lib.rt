@@ -344,19 +344,11 @@ fn empty_record(channels: u16, rate: u32) -> Record
         align: 2 * channels,
         samples: 1,
     };
-    let cues = Cues {
-        count: 0,
-        list: tables::no_cues(),
-    };
-    let playlist = Playlist {
-        count: 0,
-        list: tables::no_plays(),
-    };
     Record {
         format: format,
         frames: Frames(0),
-        cues: cues,
-        playlist: playlist,
+        cues: tables::no_cues(),
+        playlist: tables::no_plays(),
     }
 }
 

@@ -11,49 +11,9 @@ use libc::STDIN_FILENO;
 use side::Added;
 use units::Donation;
 use units::Frames;
-use units::Refusal;
 use writer::Written;
 ghost use Prim.Native.Nat.{_-_, _≤_};
 ghost use lib.ListN.{length};
-
-// ---- what is printed
-
-// A file, or a number mixed of it.
-fn file_line(file: &[u8]) {
-    if 128 < file.len() {
-        show::field(b"mixed ", show::mixed_bytes(file));
-    } else {
-        show::word(b"file");
-        show::bytes(file);
-    }
-    show::line();
-}
-
-// Whether what nothing was written to is as it was.
-fn rest_line(rest: &[u8]) {
-    let before = [170u8; 16384];
-    let n = rest.len();
-    show::field(b"rest ", n as u64);
-    show::either(
-        check::same(rest, riff::bytes_from(&before, 0, n)),
-        b" untouched",
-        b" changed",
-    );
-}
-
-// A refusal, and the lent buffer.
-fn refused_lines(refusal: Refusal, out: &[u8]) {
-    listing::refused(refusal);
-    rest_line(out);
-}
-
-// What was written to a lent buffer.
-fn written_lines(size: usize, out: &[u8]) {
-    show::field(b"bytes ", size as u64);
-    show::line();
-    file_line(riff::bytes_from(out, 0, size));
-    rest_line(entries::past(out, size));
-}
 
 // ---- adding
 
@@ -75,7 +35,7 @@ fn again_line(old: &[u8], song: &[u8], number: Donation, limit: Frames) {
 
 // A new side in a lent buffer, and what comes of the same song again.
 fn added_lines(size: usize, out: &[u8], song: &[u8], number: Donation, limit: Frames) {
-    written_lines(size, out);
+    lent::written_lines(size, out);
     again_line(riff::bytes_from(out, 0, size), song, number, limit);
 }
 
@@ -83,15 +43,15 @@ fn added_lines(size: usize, out: &[u8], song: &[u8], number: Donation, limit: Fr
 fn add(old: &[u8], song: &[u8], number: Donation, limit: Frames, out: &mut [u8]) {
     match side::add(old, song, number, limit, out) {
         Added::Bytes(size) => added_lines(size.0, out, song, number, limit),
-        Added::Refused(refusal) => refused_lines(refusal, out),
+        Added::Refused(refusal) => lent::refused_lines(refusal, out),
     }
 }
 
 // Makes an empty side in a lent buffer.
 fn start(channels: u16, rate: u32, out: &mut [u8]) {
     match side::empty(channels, rate, out) {
-        Written::Bytes(size) => written_lines(size.0, out),
-        Written::Refused(refusal) => refused_lines(refusal, out),
+        Written::Bytes(size) => lent::written_lines(size.0, out),
+        Written::Refused(refusal) => lent::refused_lines(refusal, out),
     }
 }
 

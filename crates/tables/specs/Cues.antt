@@ -19,6 +19,9 @@ use Rattle.tables.specs.Tables.{countIn, held, tableForm}
 abbrev pub noCue : Cue
 noCue = record { name = record { 0 = 0 }; position = record { 0 = 0 }; place = record { 0 = 0 } }
 
+abbrev pub noCues : Cues
+noCues = record { count = 0; list = replicate 64 noCue }
+
 -- a cue point: name, position, chunk code, chunk start, block start, sample offset; its place is its sample offset
 unfoldable pub cueAt : List ℕ → ℕ → Cue
 cueAt s at =

@@ -19,6 +19,9 @@ use Rattle.tables.specs.Cues.{namesIn, placesIn}
 abbrev pub noPlay : Play
 noPlay = record { name = record { 0 = 0 }; length = record { 0 = 0 }; times = 0 }
 
+abbrev pub noPlays : Playlist
+noPlays = record { count = 0; list = replicate 64 noPlay }
+
 -- an entry: name, length, times
 unfoldable pub playAt : List ℕ → ℕ → Play
 playAt s at =

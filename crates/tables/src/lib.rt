@@ -14,8 +14,8 @@ ghost use Rattle.little.specs.Writing.{Put};
 ghost use Rattle.lists.specs.Among.{indexIn};
 ghost use Rattle.codes.specs.Codes.{codeBytes};
 ghost use Rattle.codes.specs.declared.Code.the-variants.{Data};
-ghost use Rattle.tables.specs.Cues.{noCue, cueAt, plainCue, cuesIn, cuesOf, cuesForm, nameOf, placeOf, namesIn, cuesRule};
-ghost use Rattle.tables.specs.Plays.{noPlay, playAt, playsIn, playsOf, playsForm, playable, allPlayable, playsRule};
+ghost use Rattle.tables.specs.Cues.{noCue, noCues, cueAt, plainCue, cuesIn, cuesOf, cuesForm, nameOf, placeOf, namesIn, cuesRule};
+ghost use Rattle.tables.specs.Plays.{noPlay, noPlays, playAt, playsIn, playsOf, playsForm, playable, allPlayable, playsRule};
 ghost use Rattle.tables.specs.Tables.{held};
 ghost use Rattle.tables.specs.More.{cuesWith, playsWith};
 ghost use Rattle.tables.specs.Bytes.{entryBytes, cueBytes, cuesBytes, playBytes, playsBytes};
@@ -77,7 +77,7 @@ fn cue_at(bytes: &[u8], at: usize) -> Cue
 }
 
 // Room for cues, all zero.
-pub fn no_cues() -> [Cue; 64]
+fn cue_room() -> [Cue; 64]
     ensures { λ r. ⌜ r ≡ replicate 64 noCue ⌝ }
 {
     let none = Cue {
@@ -88,12 +88,22 @@ pub fn no_cues() -> [Cue; 64]
     [none; 64]
 }
 
+// A table without cues.
+pub fn no_cues() -> Cues
+    ensures { λ r. ⌜ r ≡ noCues ⌝ }
+{
+    Cues {
+        count: 0,
+        list: cue_room(),
+    }
+}
+
 // The first n cue points, and zero past them.
 fn cues_in(bytes: &[u8], n: usize) -> [Cue; 64]
     requires { ⌜ n ≤ 64 ⌝ }
     ensures { λ r. ⌜ r ≡ cuesIn (now (bytes .entry)) n ⌝ }
 {
-    let mut list = no_cues();
+    let mut list = cue_room();
     let mut i = 0;
     while i < n {
         list[i] = cue_at(bytes, 4 + 24 * i);
@@ -219,7 +229,7 @@ fn play_at(bytes: &[u8], at: usize) -> Play
 }
 
 // Room for playlist entries, all zero.
-pub fn no_plays() -> [Play; 64]
+fn play_room() -> [Play; 64]
     ensures { λ r. ⌜ r ≡ replicate 64 noPlay ⌝ }
 {
     let none = Play {
@@ -230,12 +240,22 @@ pub fn no_plays() -> [Play; 64]
     [none; 64]
 }
 
+// A playlist without entries.
+pub fn no_plays() -> Playlist
+    ensures { λ r. ⌜ r ≡ noPlays ⌝ }
+{
+    Playlist {
+        count: 0,
+        list: play_room(),
+    }
+}
+
 // The first n playlist entries, and zero past them.
 fn plays_in(bytes: &[u8], n: usize) -> [Play; 64]
     requires { ⌜ n ≤ 64 ⌝ }
     ensures { λ r. ⌜ r ≡ playsIn (now (bytes .entry)) n ⌝ }
 {
-    let mut list = no_plays();
+    let mut list = play_room();
     let mut i = 0;
     while i < n {
         list[i] = play_at(bytes, 4 + 12 * i);

@@ -246,7 +246,7 @@ pub fn write(made: Record, sound: &[u8], out: &mut [u8]) -> Written
     write_joined(made, sound, b"", out)
 }
 
-// The same with a sound in two parts, one behind the other: the song side of adding.
+// The same with a sound in two parts, one behind the other, as adding to a side has it.
 pub fn write_joined(made: Record, first: &[u8], second: &[u8], out: &mut [u8]) -> Written
     ensures { λ r. ⌜ (r ≡ writing made (now (first .entry) ++ now (second .entry)) (length (now (out .entry))))
         × (now (out .exit) ≡ holding r (fileOf made (now (first .entry) ++ now (second .entry))) (now (out .entry))) ⌝ }

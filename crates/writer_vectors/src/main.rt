@@ -13,7 +13,6 @@ use rules::Record;
 use tables::Cues;
 use tables::Playlist;
 use units::Frames;
-use units::Refusal;
 use units::Verdict;
 use writer::Written;
 ghost use Prim.Native.Nat.{_-_, _≤_};
@@ -151,50 +150,18 @@ fn reads_back(file: &[u8], made: Record, sound: &[u8]) -> bool {
 
 // ---- writing
 
-// A file, or a number mixed of it.
-fn file_line(file: &[u8]) {
-    if 128 < file.len() {
-        show::field(b"mixed ", show::mixed_bytes(file));
-    } else {
-        show::word(b"file");
-        show::bytes(file);
-    }
-    show::line();
-}
-
-// Whether what nothing was written to is as it was.
-fn rest_line(rest: &[u8]) {
-    let before = [170u8; 16384];
-    let n = rest.len();
-    show::field(b"rest ", n as u64);
-    show::either(
-        check::same(rest, riff::bytes_from(&before, 0, n)),
-        b" untouched",
-        b" changed",
-    );
-}
-
-// A refusal, and the lent buffer.
-fn refused_lines(refusal: Refusal, out: &[u8]) {
-    listing::refused(refusal);
-    rest_line(out);
-}
-
 // What was written to a lent buffer, and whether it reads back.
 fn written_lines(size: usize, out: &[u8], made: Record, sound: &[u8]) {
-    let file = riff::bytes_from(out, 0, size);
-    show::field(b"bytes ", size as u64);
-    show::line();
-    file_line(file);
-    rest_line(entries::past(out, size));
-    show::either(reads_back(file, made, sound), b"reads back", b"differs");
+    lent::written_lines(size, out);
+    let back = reads_back(riff::bytes_from(out, 0, size), made, sound);
+    show::either(back, b"reads back", b"differs");
 }
 
 // Writes a record and its sound to a lent buffer; counted is the record with nothing past its counts.
 fn write(made: Record, counted: Record, sound: &[u8], out: &mut [u8]) {
     match writer::write(made, sound, out) {
         Written::Bytes(size) => written_lines(size.0, out, counted, sound),
-        Written::Refused(refusal) => refused_lines(refusal, out),
+        Written::Refused(refusal) => lent::refused_lines(refusal, out),
     }
 }
 
