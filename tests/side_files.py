@@ -275,8 +275,8 @@ def refused_files():
         yield adding(f'side: {label}', 19, made, song())
 
 
-def wrong_sides():
-    """What is wrong with a file that is read and is no side, and the file: five frames, mostly, and two cues."""
+def wrong_tables():
+    """What is wrong with a file of 16-bit PCM that is no side, and the file: five frames, mostly, and two cues."""
     yield 'no cue', wave(fmt(), data(4))
     yield 'no cue, tables of count 0', wave(fmt(), cue(), plst(), data(4))
     yield 'no entry', wave(fmt(), cue(point(7, 0)), data(4))
@@ -310,6 +310,10 @@ def wrong_sides():
     yield 'the last twice', tabled(CUES, [(7, 2), (8, 3, 2)])
     yield 'the first very often', tabled(CUES, [(7, 2, MOST), (8, 3)])
     yield 'times 257', tabled(CUES, [(7, 2), (8, 3, 257)])
+
+
+def wrong_formats():
+    """What is wrong with a file that has the tables of a side, and the file."""
     yield '8 bits', tabled(CUES, PLAYS, fmt(bits=8), data(5))
     yield '8 bits in stereo', tabled(CUES, PLAYS, fmt(channels=2, bits=8), data(10))
     yield 'IMA', tabled(CUES, PLAYS, ima(), data(8), [fact(5)])
@@ -321,7 +325,7 @@ def wrong_sides():
 def no_sides():
     """Refusal 19, and the side next to it."""
     yield adding('the side itself', size(3, 7), tabled(CUES, PLAYS), song())
-    for label, made in wrong_sides():
+    for label, made in (*wrong_tables(), *wrong_formats()):
         yield adding(f'no side: {label}', 19, made, song())
 
 
@@ -441,10 +445,10 @@ def rooms():
     yield adding('room for less than the old file', size(2, 4), long, song(), room=size(2, 4))
 
 
-def orders():
-    """All faults at once, and one after the other put right, down to the file; then faults two by two."""
+def all_at_once():
+    """All faults at once, and one after the other put right, down to the file."""
     bad, wrong, old = wave(fmt(rate=0), data(1)), wave(fmt(), data(4)), side((7, 2))
-    silent, eight = song(0, bits=8), song(name=7, bits=8)
+    silent = song(0, bits=8)
     for label, said, *asks in (
             ('all faults from the song on', 9, wrong, bad, 7, 0, 0),
             ('all faults from 19 on', 19, wrong, silent, 7, 0, 0),
@@ -456,7 +460,12 @@ def orders():
             ('all put right but the room', 14, old, song(), 5, 4, 0),
             ('all put right', size(2, 4), old, song(), 5, 4, 300)):
         yield adding(label, said, *asks)
-    half = wave(fmt(), data(3))
+
+
+def two_by_two():
+    """Two faults at once: the earlier one decides."""
+    wrong, old = wave(fmt(), data(4)), side((7, 2))
+    half, silent, eight = wave(fmt(), data(3)), song(0, bits=8), song(name=7, bits=8)
     yield adding('half a frame, and no side', 10, wrong, half)
     yield adding('half a frame, and a side that is refused', 10, b'', half)
     yield adding('a song and a side that are refused', 2, half, b'RIFX' + song()[4:])
@@ -492,7 +501,7 @@ def all_vectors():
     """All that is stored: as much as the program reads."""
     made = [*starts(), *examples(), *first_songs(), *more_songs(), *left_out(), *positions(), *refused_files(),
             *no_sides(), *unlike_songs(), *silent_songs(), *listed_songs(), *long_songs(), *limits(), *full_sides(),
-            *rooms(), *orders()]
+            *rooms(), *all_at_once(), *two_by_two()]
     if sum(len(taken) for taken, _ in made) > 65536:
         raise ValueError('the sides and songs are more than 65,536 bytes')
     return made

@@ -69,8 +69,8 @@ module _ (side : Reading) (w : List ℕ) (song : Reading) (v : List ℕ) (number
     met : Met side w song number limit
     met = verdict-says side w song v number limit (sym e ∙ f)
 
-    pub stands : isSide (side .made) ≡ true
-    stands = side-says side (met .side) .1
+    pub side-stands : isSide (side .made) ≡ true
+    side-stands = side-says side (met .side) .1
 
     pub few-cues : side .made .cues .count < 64
     few-cues = place-says (side .made) (song .made .frames) limit (met .place) .0
@@ -78,7 +78,7 @@ module _ (side : Reading) (w : List ℕ) (song : Reading) (v : List ℕ) (number
     pub frames-fit : Fits w32 (limit .0) → side .made .frames .0 + song .made .frames .0 < 4294967296
     frames-fit l = let h = l .fits in omega (arith, place-says (side .made) (song .made .frames) limit (met .place) .1)
 
-pub ruleset reading-added = (answer-refused, answer-joined, stands, few-cues, frames-fit)
+pub ruleset reading-added = (answer-refused, answer-joined, side-stands, few-cues, frames-fit)
 
 -- ---- the files
 module _ (s t : List ℕ) (number : Donation) (limit : Frames) {side song : Reading} {w v : List ℕ}
@@ -116,7 +116,7 @@ read-plays s e = rw e (read-few s .1)
 pub ruleset file-added = (sound-placed, added, new-held, read-cues, read-plays)
 
 -- ---- an empty side
-pub empty-made : (channels rate : ℕ) {c : Cues} {p : Playlist} → c ≡ noCues → p ≡ noPlays
+pub empty-record : (channels rate : ℕ) {c : Cues} {p : Playlist} → c ≡ noCues → p ≡ noPlays
     → record {
       format = record { tag = 1; channels = channels; rate = rate; bits = 16; align = 2 * channels; samples = 1 };
       frames = record { 0 = 0 };
@@ -124,7 +124,7 @@ pub empty-made : (channels rate : ℕ) {c : Cues} {p : Playlist} → c ≡ noCue
       playlist = p;
     } ≡ emptySide channels rate
 unfolding emptySide
-empty-made channels rate e f = simp (e, f)
+empty-record channels rate e f = simp (e, f)
 
 module _ (channels rate room : ℕ) where
   pub empty-channels : 2 < channels → written.Refused FormatWrong ≡ writing (emptySide channels rate) [] room
@@ -142,4 +142,4 @@ pub empty-held : (channels rate : ℕ) (r : Written) (d : List ℕ) {m : Record}
     → z ≡ file.holding r (fileOf (emptySide channels rate) []) d
 empty-held channels rate r d e f = f ∙ ap (λ (m : Record). file.holding r (fileOf m []) d) e
 
-pub ruleset emptying = (empty-made, empty-channels, empty-written, empty-held)
+pub ruleset emptying = (empty-record, empty-channels, empty-written, empty-held)

@@ -2,10 +2,10 @@
 use mathlib.Core.Path.{_≡_, refl, sym, ap, _∙_}
 use mathlib.Core.Bool.{Bool, true, false, cond}
 use mathlib.Core.List.{List, [], _∷_}
-use Prim.Native.Nat.{ℕ, _*_, _<_}
+use Prim.Native.Nat.{ℕ, _+_, _*_, _<_}
 use native.Mathlib.Omega.{arith}
 use lib.Dec.{leb}
-use lib.ListN.{length}
+use lib.ListN.{length, length-append}
 use borrow.Author.Tests.{leb-false, eq-eqb}
 use Rattle.little.specs.Same.{sameBytes}
 use Rattle.little.proofs.Comparing.{same-itself, same-not}
@@ -13,16 +13,18 @@ use Rattle.formats.specs.declared.Format.{Format}
 use Rattle.rules.specs.declared.Record.{Record}
 use Rattle.reader.specs.Content.{holds, contentOf, soundIn}
 use Rattle.writer.specs.Demands.{Back}
-use Rattle.writer.proofs.Demands.{content-written, back}
+use Rattle.writer.proofs.Settling.{settled-says}
+use Rattle.writer.proofs.Demands.{bytes-say, content-written, back}
 use Rattle.writer.proofs.Bytes.{file-bytes}
 use Rattle.side.specs.declared.Added.{Added}
 use Rattle.side.specs.Side.{Song, songsIn, isListed, listedSound}
 use Rattle.side.specs.Adding.{suits, withSong, newRecord, newSound, newFile, holding}
-use Rattle.side.specs.Demands.{framesIn, formatIn, songFrom, Grown, Grows, Listed, OnceListed, AddedAgain, LeavesAll}
+use Rattle.side.specs.Demands.{framesIn, formatIn, songFrom, Grown, Grows, StaysWithin, Listed, OnceListed, AddedAgain, LeavesAll}
+use Rattle.side.proofs.Growing.{songs-count}
 use Rattle.side.proofs.Answers.{added-says, empty-added, listed-added}
 use Rattle.side.proofs.Sides.{held-made, held-sound, held-side, held-songs, standing, song-long}
 use Rattle.side.proofs.Listed.{listed-behind, sound-behind, sound-some}
-use Rattle.side.proofs.Joining.{new-fits, new-kept, new-bytes, new-side, new-songs}
+use Rattle.side.proofs.Joining.{new-fits, new-kept, new-bytes, new-side, new-songs, new-long}
 
 -- ---- a song that is added
 pub grows : Grows
@@ -43,6 +45,25 @@ grows s x limit room n b y l e =
       frames = ap (λ (z : Record). z .frames .0) (held-made new c);
       songs = held-songs new c ∙ new-songs k;
       sound = held-sound new c;
+    }
+
+pub stays-within : StaysWithin
+unfolding StaysWithin Grows newFile
+stays-within s x limit room n b y l e =
+    let p = added-says s (x .file) (x .number) limit room n e in
+    let k = p .0 in
+    let g : Grown s x n = grows s x limit room n b y l e in
+    let m : Record = newRecord s (x .file) (x .number) in
+    let w : List ℕ = newSound s (x .file) in
+    let c = songs-count (standing s (k .side)) in
+    let f = g .frames in
+    let one : List Song = songFrom (framesIn s) x ∷ [] in
+    let i : length (songsIn (newFile s (x .file) (x .number))) ≡ length (songsIn s) + 1 = ap length (g .songs) ∙ length-append (songsIn s) one in
+    record {
+      songs = omega (arith, k .few);
+      frames = omega (arith, k .within);
+      size = new-long k;
+      most = settled-says m w room (bytes-say m w room n (p .1)) .limit;
     }
 
 -- ---- a listed number

@@ -6,7 +6,6 @@ use Prim.Native.Nat.{ℕ, _+_, _*_, _≤_, _<_}
 use native.Mathlib.Nat.{mul-add}
 use native.Mathlib.Omega.{arith}
 use lib.ListN.{length, length-append, length-set}
-use lib.Seq.{length-take-le}
 use Rattle.lists.specs.Among.{has}
 use Rattle.units.specs.declared.Donation.{Donation}
 use Rattle.units.specs.declared.Frames.{Frames}
@@ -25,7 +24,7 @@ use Rattle.tables.proofs.BehindRules.{cues-few, plays-few, cues-rule-more, play
 use Rattle.formats.proofs.Whole.{long-whole, long-count, long-even}
 use Rattle.side.proofs.Sixteen.{sixteen-long}
 use Rattle.side.proofs.Sizes.{file-long}
-use Rattle.side.proofs.Songs.{side-sixteen, side-tiled, side-tag, side-bits, tiled-long, tiled-more}
+use Rattle.side.proofs.Songs.{side-sixteen, side-tiled, side-tag, side-bits, lists-long, cues-many, counts-agree, tiled-more}
 use Rattle.side.proofs.Songs.{songs-long, songs-named, song-last, songs-more}
 
 -- a record that keeps the rules with its sound w and is a side; its arrays have room for 64
@@ -39,27 +38,19 @@ module _ {m : Record} {w : List ℕ} (k : Standing m w) where
   tiles : tiled (cueList m) (playList m) 0 (m .frames .0) ≡ true
   tiles = side-tiled m (k .side)
 
-  -- how many entries the two tables have
-  cues-many : length (cueList m) ≡ m .cues .count
-  unfolding cueList
-  cues-many = length-take-le (m .cues .count) (m .cues .list) (omega (arith, cues-few (m .cues) (m .frames) (k .rules .cues), k .cueRoom))
-
-  plays-many : length (playList m) ≡ m .playlist .count
-  unfolding playList
-  plays-many =
-      length-take-le (m .playlist .count) (m .playlist .list)
-      (omega (arith, plays-few (m .playlist) (m .cues) (m .frames) (k .rules .plays), k .playRoom))
-
-  lists-long : length (cueList m) ≡ length (playList m)
-  lists-long = tiled-long (m .frames .0) (cueList m) (playList m) 0 tiles
+  few-cues : m .cues .count ≤ 64
+  few-cues = cues-few (m .cues) (m .frames) (k .rules .cues)
 
   -- as many cues as entries
   pub counts-same : m .cues .count ≡ m .playlist .count
-  counts-same = sym cues-many ∙ lists-long ∙ plays-many
+  unfolding cueList playList
+  counts-same =
+      counts-agree (m .cues) (m .playlist) (m .frames .0) few-cues
+      (plays-few (m .playlist) (m .cues) (m .frames) (k .rules .plays)) (k .cueRoom) (k .playRoom) tiles
 
   pub songs-count : length (songsHeld m w) ≡ m .cues .count
   unfolding songsHeld
-  songs-count = songs-long (m .format) w (cueList m) (playList m) lists-long ∙ cues-many
+  songs-count = songs-long (m .format) w (cueList m) (playList m) (lists-long m (k .side)) ∙ cues-many m few-cues (k .cueRoom)
 
   -- the sound is whole frames
   pub sound-long : length w ≡ m .format .align * m .frames .0
@@ -104,8 +95,7 @@ module _ {m : Record} {w : List ℕ} (k : Standing m w) where
         tiled-more (m .frames .0) (cueList m) (playList m) 0 tiles cue play refl (record { name = refl; times = refl }) in
         simp (side-sixteen m (k .side), cues-listed, plays-listed, t)
 
-    pub grown-songs : songsHeld grown (w ++ v)
-        ≡ songsHeld m w ++ (record { number = number; position = m .frames; place = m .frames; length = frames; sound = v } ∷ [])
+    pub grown-songs : songsHeld grown (w ++ v) ≡ songsHeld m w ++ (song v ∷ [])
     unfolding songsHeld withSong
     grown-songs =
         (λ i. songsOf (m .format) (w ++ v) (cues-listed i) (plays-listed i))
@@ -134,7 +124,7 @@ module _ {m : Record} {w : List ℕ} (k : Standing m w) where
     grown-rules l =
         let new : has (number .0) (namesIn (m .cues)) ≡ false =
         ap (has (number .0)) (names-first (m .cues) (omega arith))
-        ∙ sym (songs-named number (m .format) w (cueList m) (playList m) lists-long)
+        ∙ sym (songs-named number (m .format) w (cueList m) (playList m) (lists-long m (k .side)))
         ∙ l in
         record {
           format = k .rules .format;

@@ -18,7 +18,7 @@ use Rattle.reader.proofs.Again.{content-fits, content-kept-read}
 use Rattle.writer.specs.File.{sizeOf}
 use Rattle.side.specs.Side.{isSide, songsHeld, songsIn}
 use Rattle.side.specs.Adding.{newRecord, newSound, newFile}
-use Rattle.side.specs.Demands.{framesIn, formatIn, songFrom}
+use Rattle.side.specs.Demands.{framesIn, formatIn, songFrom, sideSize}
 use Rattle.side.proofs.Growing.{Standing, songs-count, grown-rules, grown-fits, grown-kept, grown-side, grown-songs, grown-long}
 use Rattle.side.proofs.Answers.{Taking}
 use Rattle.side.proofs.Sides.{sound-bytes, side-held, standing, song-long}
@@ -56,6 +56,6 @@ module _ {s t : List ℕ} {number : Donation} {limit : Frames} (k : Taking s t n
       ≡ songsIn s ++ (songFrom (framesIn s) (record { file = t; number = number }) ∷ [])
   new-songs = grown-songs stands number frames (soundIn t) (k .few) (k .some) long
 
-  pub new-long : length (newFile s t number) ≡ 68 + 36 * (length (songsIn s) + 1) + formatIn s .align * (framesIn s + framesIn t)
+  pub new-long : length (newFile s t number) ≡ sideSize (formatIn s) (length (songsIn s) + 1) (framesIn s + framesIn t)
   unfolding newFile
   new-long = omega (arith, songs-count stands, grown-long stands number frames (soundIn t) (k .few) (k .some) long)

@@ -3,12 +3,11 @@ use mathlib.Core.Path.{_≡_, refl, sym, ap, _∙_}
 use mathlib.Core.Bool.{Bool, true, false, not, _&&_}
 use mathlib.Core.List.{List, [], _∷_}
 use Prim.Native.Nat.{ℕ, _+_, _*_, _≤_, _<_}
-use native.Mathlib.Nat.{mul-le-mul}
 use native.Mathlib.Omega.{arith}
 use lib.Dec.{eqb, leb}
 use lib.ListN.{length, take, drop, getD}
 use lib.Seq.{length-take-le, drop-length, getD-take}
-use mir.Syntax.{w16, w32, w64}
+use mir.Syntax.{w32, w64}
 use mir.Val.{Fits}
 use borrow.Author.Tests.{eq-eqb, ne-eqb, not-true, not-false, lt-ltb, le-ltb}
 use Rattle.little.proofs.Filling.{drop-next}
@@ -27,7 +26,7 @@ use Rattle.rules.specs.declared.Record.{Record}
 use Rattle.rules.specs.declared.Reading.{Reading}
 use Rattle.side.specs.Side.{sixteenBit, cueList, playList, tiled, isSide, sideRead}
 use Rattle.side.specs.Adding.{suits, hasPlace}
-use Rattle.side.proofs.Songs.{tiled-long}
+use Rattle.side.proofs.Songs.{counts-agree}
 
 -- ---- 16-bit PCM
 module _ (f : Format) where
@@ -124,25 +123,22 @@ module _ (c : Cues) (p : Playlist) (frames : ℕ) where
   counts-differ h k a b g = by (tiled (take (c .count) (c .list)) (take (p .count) (p .list)) 0 frames) refl
     where
       by : (x : Bool) → tiled (take (c .count) (c .list)) (take (p .count) (p .list)) 0 frames ≡ x → false ≡ x
-      by true e =
-          absurd (g (sym (length-take-le (c .count) (c .list) (omega arith))
-          ∙ tiled-long frames (take (c .count) (c .list)) (take (p .count) (p .list)) 0 e
-          ∙ length-take-le (p .count) (p .list) (omega arith)))
+      by true e = absurd (g (counts-agree c p frames h k a b e))
       by false e = refl
 
-  pub counts-same : {r : Bool} → c .count ≡ p .count → r ≡ tiled (take (c .count) (c .list)) (take (c .count) (p .list)) 0 frames
+  pub counts-alike : {r : Bool} → c .count ≡ p .count → r ≡ tiled (take (c .count) (c .list)) (take (c .count) (p .list)) 0 frames
       → r ≡ tiled (take (c .count) (c .list)) (take (p .count) (p .list)) 0 frames
-  counts-same g h = h ∙ simp g
+  counts-alike g h = h ∙ simp g
 
 module _ (m : Record) {b : Bool} (e : b ≡ sixteenBit (m .format)) where
-  pub side-bits : not b ≡ true → false ≡ isSide m
+  pub side-other : not b ≡ true → false ≡ isSide m
   unfolding isSide
-  side-bits f = simp (sym e ∙ not-true b f)
+  side-other f = simp (sym e ∙ not-true b f)
 
-  pub side-tiled : {r : Bool} → not b ≡ false
+  pub side-by-tiles : {r : Bool} → not b ≡ false
       → r ≡ tiled (take (m .cues .count) (m .cues .list)) (take (m .playlist .count) (m .playlist .list)) 0 (m .frames .0) → r ≡ isSide m
   unfolding isSide cueList playList
-  side-tiled f h = h ∙ simp (sym e ∙ not-false b f)
+  side-by-tiles f h = h ∙ simp (sym e ∙ not-false b f)
 
 module _ (x : Reading) where
   pub read-side : {r : Bool} → x .verdict ≡ Accepted → r ≡ isSide (x .made) → r ≡ sideRead x
@@ -178,10 +174,4 @@ module _ (m : Record) (frames limit : Frames) where
   unfolding hasPlace
   place-frames h g = simp (lt-ltb (m .cues .count) 64 (omega arith))
 
-pub product-fits : {a b : ℕ} → Fits w16 a → Fits w32 b → Fits w64 (a * b)
-product-fits {a} {b} h k =
-    let l : a ≤ 65535 = omega (arith, h .fits) in
-    let m : b ≤ 4294967295 = omega (arith, k .fits) in
-    record { fits = omega (arith, mul-le-mul l m) }
-
-pub ruleset judging = (array-long, counts-differ, counts-same, side-bits, side-tiled, read-side, read-refused, suits-bits, suits-channels, suits-rate, place-full, place-frames, product-fits)
+pub ruleset judging = (array-long, counts-differ, counts-alike, side-other, side-by-tiles, read-side, read-refused, suits-bits, suits-channels, suits-rate, place-full, place-frames)

@@ -12,5 +12,5 @@ pub mod Joining
 pub mod Demands
 pub mod Ready
 pub mod Sending
-pub mod EmptySide
 pub mod Rows
+pub mod EmptySide

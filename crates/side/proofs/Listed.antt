@@ -37,6 +37,16 @@ module _ (number : Donation) where
       let p = neither (eqb (x .number .0) (number .0)) (isListed number xs) e in
       ap (λ (b : Bool). cond b true (isListed number (xs ++ ys))) (p .0) ∙ listed-behind xs ys (p .1)
 
+  pub listed-before : (xs ys : List Song) → isListed number xs ≡ true → isListed number (xs ++ ys) ≡ true
+  unfolding isListed
+  listed-before [] ys e = absurd (subst T (sym e) tt)
+  listed-before (x ∷ xs) ys e = by (eqb (x .number .0) (number .0)) e (listed-before xs ys)
+    where
+      by : (b : Bool) → cond b true (isListed number xs) ≡ true → (isListed number xs ≡ true → isListed number (xs ++ ys) ≡ true)
+          → cond b true (isListed number (xs ++ ys)) ≡ true
+      by true h k = refl
+      by false h k = k h
+
   pub sound-behind : (xs ys : List Song) → isListed number xs ≡ false → listedSound number (xs ++ ys) ≡ listedSound number ys
   unfolding isListed listedSound
   sound-behind [] ys e = refl

@@ -3,10 +3,13 @@ use mathlib.Core.Path.{_≡_, refl, sym, ap, _∙_}
 use mathlib.Core.Bool.{Bool, true, false, not, cond}
 use mathlib.Core.List.{List, [], _∷_, map}
 use Prim.Native.Nat.{ℕ, suc, _+_, _*_, _≤_, _<_}
+use native.Mathlib.Nat.{mul-le-mul}
 use native.Mathlib.Omega.{arith}
 use lib.Dec.{eqb, ltb}
 use lib.ListN.{length, take, drop, getD, length-map, length-take}
-use lib.Seq.{length-take-le, getD-take}
+use lib.Seq.{getD-take}
+use mir.Syntax.{w16, w32, w64}
+use mir.Val.{Fits}
 use borrow.Author.Tests.{lt-ltb, le-ltb, lt-leb, le-leb, not-true, not-false}
 use Rattle.little.specs.Same.{sameBytes}
 use Rattle.lists.specs.Among.{indexIn, has}
@@ -30,10 +33,15 @@ use Rattle.rules.specs.declared.Record.{Record}
 use Rattle.rules.specs.declared.Reading.{Reading}
 use Rattle.side.specs.Side.{cueList, playList, isSide, sideRead, framesAt, soundAt, songsOf, songsHeld, isListed, listedSound}
 use Rattle.side.specs.Adding.{suits, onceMore, hasPlace, placeVerdict, addVerdict, withSong}
-use Rattle.side.proofs.Songs.{songs-named, tiled-long, side-tiled, side-says}
-use Rattle.side.proofs.Judging.{product-fits}
+use Rattle.side.proofs.Songs.{songs-named, side-tiled, lists-long, cues-many, counts-agree, side-says}
 
 -- ---- the sound of a song
+pub product-fits : {a b : ℕ} → Fits w16 a → Fits w32 b → Fits w64 (a * b)
+product-fits {a} {b} h k =
+    let l : a ≤ 65535 = omega (arith, h .fits) in
+    let m : b ≤ 4294967295 = omega (arith, k .fits) in
+    record { fits = omega (arith, mul-le-mul l m) }
+
 pub frames-part : (f : Format) (w : List ℕ) (place long : Frames) {r : List ℕ} → r ≡ take (f .align * long .0) (drop (f .align * place .0) w)
     → r ≡ framesAt f w place long
 unfolding framesAt
@@ -59,12 +67,8 @@ songs-sound n f w (c ∷ cs) (p ∷ ps) e h = by (indexIn (n .0) (map nameOf cs)
 module _ (m : Record) (w : List ℕ) (number : Donation) {found : ℕ} (few : m .cues .count ≤ 64) (side : isSide m ≡ true)
     (cueRoom : length (m .cues .list) ≡ 64)
     (e : found ≡ indexIn (number .0) (namesIn (m .cues))) where
-  cues-many : length (cueList m) ≡ m .cues .count
-  unfolding cueList
-  cues-many = length-take-le (m .cues .count) (m .cues .list) (omega arith)
-
-  lists-long : length (cueList m) ≡ length (playList m)
-  lists-long = tiled-long (m .frames .0) (cueList m) (playList m) 0 (side-tiled m side)
+  many : length (cueList m) ≡ m .cues .count
+  many = cues-many m few cueRoom
 
   plays-many : length (playList m) ≤ m .playlist .count
   unfolding playList
@@ -80,8 +84,8 @@ module _ (m : Record) (w : List ℕ) (number : Donation) {found : ℕ} (few : m 
   listed : isListed number (songsHeld m w) ≡ ltb found (m .cues .count)
   unfolding songsHeld has
   listed =
-      songs-named number (m .format) w (cueList m) (playList m) lists-long
-      ∙ (λ i. ltb (sym index i) ((length-map (cueList m) nameOf ∙ cues-many) i))
+      songs-named number (m .format) w (cueList m) (playList m) (lists-long m side)
+      ∙ (λ i. ltb (sym index i) ((length-map (cueList m) nameOf ∙ many) i))
 
   first-cue : found < m .cues .count → getD (m .cues .list) found noCue ≡ getD (cueList m) found noCue
   unfolding cueList
@@ -89,14 +93,14 @@ module _ (m : Record) (w : List ℕ) (number : Donation) {found : ℕ} (few : m 
 
   first-play : found < m .cues .count → getD (m .playlist .list) found noPlay ≡ getD (playList m) found noPlay
   unfolding playList
-  first-play h = sym (getD-take (m .playlist .count) (m .playlist .list) found noPlay (omega (arith, lists-long, cues-many, plays-many)))
+  first-play h = sym (getD-take (m .playlist .count) (m .playlist .list) found noPlay (omega (arith, lists-long m side, many, plays-many)))
 
   -- ---- a listed number
   sound : found < m .cues .count
       → soundAt m w found
       ≡ listedSound number (songsHeld m w)
   unfolding songsHeld
-  sound h = (λ j. framesAt (m .format) w (cue j .place) (play j .length)) ∙ songs-sound number (m .format) w (cueList m) (playList m) lists-long within
+  sound h = (λ j. framesAt (m .format) w (cue j .place) (play j .length)) ∙ songs-sound number (m .format) w (cueList m) (playList m) (lists-long m side) within
     where
       cue : getD (m .cues .list) found noCue ≡ getD (cueList m) (indexIn (number .0) (map nameOf (cueList m))) noCue
       cue = first-cue h ∙ ap (λ (k : ℕ). getD (cueList m) k noCue) index
@@ -105,7 +109,7 @@ module _ (m : Record) (w : List ℕ) (number : Donation) {found : ℕ} (few : m 
       play = first-play h ∙ ap (λ (k : ℕ). getD (playList m) k noPlay) index
 
       within : indexIn (number .0) (map nameOf (cueList m)) < length (cueList m)
-      within = omega (arith, index, cues-many)
+      within = omega (arith, index, many)
 
   module _ (frames : Frames) (v : List ℕ) (limit : Frames) where
     pub place-listed : {r : Verdict} → found < m .cues .count
@@ -178,11 +182,7 @@ pub few-entries : (m : Record) → isSide m ≡ true → m .cues .count < 64 →
     → length (m .cues .list) ≡ 64 → length (m .playlist .list) ≡ 64 → m .playlist .count < 64
 unfolding cueList playList
 few-entries m e h k cueRoom playRoom =
-    omega (
-      arith,
-      length-take-le (m .cues .count) (m .cues .list) (omega arith),
-      length-take-le (m .playlist .count) (m .playlist .list) (omega arith),
-      tiled-long (m .frames .0) (cueList m) (playList m) 0 (side-tiled m e),
-    )
+    let same = counts-agree (m .cues) (m .playlist) (m .frames .0) (omega arith) k cueRoom playRoom (side-tiled m e) in
+    omega arith
 
 pub ruleset singing = (song-made, few-entries, array-long)

@@ -16,7 +16,7 @@ use Rattle.writer.proofs.Demands.{accepted}
 use Rattle.side.specs.declared.Added.the-variants.{Bytes}
 use Rattle.side.specs.Side.{Song, isSideFile, songsIn, isListed}
 use Rattle.side.specs.Adding.{newRecord, newSound, newFile, told, adding}
-use Rattle.side.specs.Demands.{framesIn, formatIn, Sent, songFrom, Grown, Grows, framesSent, AllSuitable, isSent, OnceEach}
+use Rattle.side.specs.Demands.{framesIn, formatIn, Sent, songFrom, Grown, Grows, sideSize, framesSent, AllSuitable, isSent, OnceEach}
 use Rattle.side.proofs.Growing.{songs-count}
 use Rattle.side.proofs.Answers.{Taking, taking-added}
 use Rattle.side.proofs.Sides.{standing}
@@ -54,8 +54,8 @@ pub record Ready (s : List ℕ) (xs : List Sent) (limit : Frames) (room : ℕ) :
   pub songs : length (songsIn s) + length xs ≤ 64
   pub frames : framesIn s + framesSent xs ≤ limit .0
   pub fits : limit .0 < 4294967296
-  pub size : 68 + 36 * (length (songsIn s) + length xs) + formatIn s .align * (framesIn s + framesSent xs) ≤ 1073741824
-  pub lent : 68 + 36 * (length (songsIn s) + length xs) + formatIn s .align * (framesIn s + framesSent xs) ≤ room
+  pub size : sideSize (formatIn s) (length (songsIn s) + length xs) (framesIn s + framesSent xs) ≤ 1073741824
+  pub lent : sideSize (formatIn s) (length (songsIn s) + length xs) (framesIn s + framesSent xs) ≤ room
 
 -- the first is taken
 module _ (s : List ℕ) (x : Sent) (xs : List Sent) (limit : Frames) (room : ℕ) (k : Ready s (x ∷ xs) limit room) where

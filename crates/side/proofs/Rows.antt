@@ -34,7 +34,7 @@ use Rattle.side.proofs.Sides.{standing}
 use Rattle.side.proofs.Joining.{new-rules}
 
 -- ---- tests the other way round
-not-leb : (a b : ℕ) → not (leb a b) ≡ ltb b a
+pub not-leb : (a b : ℕ) → not (leb a b) ≡ ltb b a
 not-leb a b = by (leb a b) refl
   where
     by : (q : Bool) → leb a b ≡ q → not q ≡ ltb b a

@@ -14,13 +14,14 @@ use Rattle.units.specs.declared.Refusal.the-variants.{AlreadyListed}
 use Rattle.rules.specs.declared.Record.{Record}
 use Rattle.side.specs.declared.Added.{Added}
 use Rattle.side.specs.declared.Added.the-variants.{Bytes, Refused}
-use Rattle.side.specs.Side.{Song, cueList, playList, tiled, songsHeld, isSideFile, songsIn}
+use Rattle.side.specs.Side.{Song, cueList, playList, tiled, songsHeld, isSideFile, songsIn, isListed}
 use Rattle.side.specs.Adding.{newFile, adding}
-use Rattle.side.specs.Demands.{framesIn, formatIn, Sent, songFrom, AddedAgain, sideAfter, addAll, inRow, framesSent, Grown, Grows, AllBytewise, Keeps, NoneLost, AllAdded, SentTwice}
+use Rattle.side.specs.Demands.{framesIn, formatIn, Sent, songFrom, AddedAgain, sideAfter, addAll, inRow, framesSent, Grown, Grows, AllBytewise, Keeps, NoneLost, AllAdded, SentAgain, SentTwice}
 use Rattle.side.proofs.Songs.{side-tiled}
 use Rattle.side.proofs.Growing.{Standing, counts-same, songs-count}
 use Rattle.side.proofs.Answers.{added-says}
 use Rattle.side.proofs.Sides.{standing}
+use Rattle.side.proofs.Listed.{listed-before}
 use Rattle.side.proofs.Demands.{grows, added-again}
 use Rattle.side.proofs.Ready.{NoneListed, none-first, Ready, first-written, first-grown, next-ready}
 
@@ -34,14 +35,18 @@ first-added limit room s x xs e =
 
 pub sent-twice : SentTwice
 unfolding SentTwice AddedAgain addAll
-sent-twice s x xs limit room n b y l e =
-    let k = added-says s (x .file) (x .number) limit room n e .0 in
-    let new : List ℕ = newFile s (x .file) (x .number) in
-    let r : adding new (x .file) (x .number) limit room ≡ Refused AlreadyListed =
-    added-again s x limit room n b y l e (x .file) limit room (k .taken) (k .suited) .same refl in
-    first-added limit room s x (x ∷ xs) e
-    ∙ ap (λ (a : Added). addAll limit room (sideAfter a new (newFile new (x .file) (x .number))) xs) r
-    ∙ sym (first-added limit room s x xs e)
+sent-twice s x xs limit room b y l = by (adding s (x .file) (x .number) limit room) refl
+  where
+    by : (a : Added) → adding s (x .file) (x .number) limit room ≡ a → addAll limit room s (x ∷ x ∷ xs) ≡ addAll limit room s (x ∷ xs)
+    by (Refused r) e = ap (λ (a : Added). addAll limit room (sideAfter a s (newFile s (x .file) (x .number))) (x ∷ xs)) e
+    by (Bytes n) e =
+        let k = added-says s (x .file) (x .number) limit room n e .0 in
+        let new : List ℕ = newFile s (x .file) (x .number) in
+        let r : adding new (x .file) (x .number) limit room ≡ Refused AlreadyListed =
+        added-again s x limit room n b y l e (x .file) limit room (k .taken) (k .suited) .same refl in
+        first-added limit room s x (x ∷ xs) e
+        ∙ ap (λ (a : Added). addAll limit room (sideAfter a new (newFile new (x .file) (x .number))) xs) r
+        ∙ sym (first-added limit room s x xs e)
 
 -- ---- whatever is sent
 pub none-lost : NoneLost
@@ -63,6 +68,30 @@ none-lost (x ∷ xs) s limit room b e y l =
           songs = k .songs ∙ ap (λ (ys : List Song). ys ++ k .more) (g .songs) ∙ append-assoc (songsIn s) one (k .more);
         }
     by (Refused r) h next = next s b e
+
+-- a number that is listed is refused, so the side stays
+listed-stays : (limit : Frames) (room : ℕ) (s : List ℕ) (x : Sent) → isListed (x .number) (songsIn s) ≡ true → addAll limit room s (x ∷ []) ≡ s
+unfolding addAll
+listed-stays limit room s x e = by (adding s (x .file) (x .number) limit room) refl
+  where
+    by : (a : Added) → adding s (x .file) (x .number) limit room ≡ a → sideAfter a s (newFile s (x .file) (x .number)) ≡ s
+    by (Bytes n) h = absurd (subst T (sym e ∙ added-says s (x .file) (x .number) limit room n h .0 .fresh) tt)
+    by (Refused r) h = refl
+
+sent-behind : (limit : Frames) (room : ℕ) (xs ys : List Sent) (s : List ℕ)
+    → addAll limit room s (xs ++ ys) ≡ addAll limit room (addAll limit room s xs) ys
+unfolding addAll
+sent-behind limit room [] ys s = refl
+sent-behind limit room (x ∷ xs) ys s =
+    sent-behind limit room xs ys (sideAfter (adding s (x .file) (x .number) limit room) s (newFile s (x .file) (x .number)))
+
+pub sent-again : SentAgain
+unfolding SentAgain NoneLost
+sent-again s x xs limit room b e i y l =
+    let k : Keeps s (addAll limit room s xs) = none-lost xs s limit room b e y l in
+    sent-behind limit room xs (x ∷ []) s
+    ∙ listed-stays limit room (addAll limit room s xs) x
+    (ap (isListed (x .number)) (k .songs) ∙ listed-before (x .number) (songsIn s) (k .more) i)
 
 -- ---- along the list
 record Reached (s t : List ℕ) (xs : List Sent) : Type 0 where

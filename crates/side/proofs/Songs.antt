@@ -7,7 +7,7 @@ use native.Mathlib.Nat.{mul-add, mul-le-mul-left}
 use native.Mathlib.Omega.{arith}
 use lib.Dec.{T, eqb}
 use lib.ListN.{length, take, drop, length-drop}
-use lib.Seq.{take-all, take-append-le, drop-append-le, drop-at}
+use lib.Seq.{take-all, take-append-le, drop-append-le, drop-at, length-take-le}
 use borrow.Author.Tests.{eq-eqb, eqb-true}
 use Rattle.lists.specs.Among.{indexIn, has}
 use Rattle.lists.proofs.Laws.{and-both}
@@ -17,7 +17,9 @@ use Rattle.units.specs.declared.Verdict.{Verdict}
 use Rattle.units.specs.declared.Verdict.the-variants.{Accepted, Refused}
 use Rattle.formats.specs.declared.Format.{Format}
 use Rattle.tables.specs.declared.Cue.{Cue}
+use Rattle.tables.specs.declared.Cues.{Cues}
 use Rattle.tables.specs.declared.Play.{Play}
+use Rattle.tables.specs.declared.Playlist.{Playlist}
 use Rattle.tables.specs.Cues.{nameOf}
 use Rattle.rules.specs.declared.Record.{Record}
 use Rattle.rules.specs.declared.Reading.{Reading}
@@ -135,11 +137,26 @@ module _ (m : Record) (e : isSide m ≡ true) where
   pub side-tiled : tiled (cueList m) (playList m) 0 (m .frames .0) ≡ true
   side-tiled = parts .1
 
+  pub lists-long : length (cueList m) ≡ length (playList m)
+  lists-long = tiled-long (m .frames .0) (cueList m) (playList m) 0 side-tiled
+
   pub side-tag : m .format .tag ≡ 1
   side-tag = sixteen-says (m .format) side-sixteen .0
 
   pub side-bits : m .format .bits ≡ 16
   side-bits = sixteen-says (m .format) side-sixteen .1
+
+-- how many cues and entries there are
+pub cues-many : (m : Record) → m .cues .count ≤ 64 → length (m .cues .list) ≡ 64 → length (cueList m) ≡ m .cues .count
+unfolding cueList
+cues-many m h room = length-take-le (m .cues .count) (m .cues .list) (omega arith)
+
+pub counts-agree : (c : Cues) (p : Playlist) (f : ℕ) → c .count ≤ 64 → p .count ≤ 64 → length (c .list) ≡ 64 → length (p .list) ≡ 64
+    → tiled (take (c .count) (c .list)) (take (p .count) (p .list)) 0 f ≡ true → c .count ≡ p .count
+counts-agree c p f h k cueRoom playRoom e =
+    sym (length-take-le (c .count) (c .list) (omega arith))
+    ∙ tiled-long f (take (c .count) (c .list)) (take (p .count) (p .list)) 0 e
+    ∙ length-take-le (p .count) (p .list) (omega arith)
 
 -- a file that was read and is a side is taken, and has the record of one
 pub side-says : (x : Reading) → sideRead x ≡ true → (x .verdict ≡ Accepted) × (isSide (x .made) ≡ true)

@@ -80,13 +80,15 @@ newFile s t number = fileOf (newRecord s t number) (newSound s t)
 
 -- ---- the answer, with room for so many bytes
 
+-- writing's answer, told as adding's
 abbrev pub told : Written → Added
 told (written.Bytes n) = Bytes n
 told (written.Refused r) = Refused r
 
+-- the verdict's refusal, or else writing's answer
 abbrev pub answer : Verdict → Written → Added
-answer verdict.Accepted w = told w
-answer (verdict.Refused r) w = Refused r
+answer verdict.Accepted x = told x
+answer (verdict.Refused r) x = Refused r
 
 -- the file is written by the rules of writing: 1 if it would be above the limit; 14
 unfoldable pub adding : List ℕ → List ℕ → Donation → Frames → ℕ → Added

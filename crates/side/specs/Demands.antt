@@ -2,7 +2,7 @@
 -- numbers, limits and rooms. `Demands`, `Sending`, `EmptySide` and `Rows` of `proofs/` prove them. Assumes nothing.
 use Prim.Native.Nat.{ℕ, _+_, _*_, _≤_, _<_}
 use mathlib.Core.Path.{_≡_}
-use mathlib.Core.Bool.{Bool, true, false, not, cond, _||_}
+use mathlib.Core.Bool.{Bool, true, false, not, cond, _&&_, _||_}
 use mathlib.Core.List.{List, [], _∷_, _++_}
 use lib.Dec.{T, eqb, ltb, leb}
 use lib.ListN.{length}
@@ -19,7 +19,7 @@ use Rattle.units.specs.Refusals.{numberOf}
 use Rattle.formats.specs.declared.Format.{Format}
 use Rattle.reader.specs.Content.{reading, soundIn}
 use Rattle.writer.specs.declared.Written.the-variants as written
-use Rattle.writer.specs.File.{sizeOf, fileOf, writing}
+use Rattle.writer.specs.File.{sizeOf, fileOf, writing, writtenNumber}
 use Rattle.side.specs.declared.Added.{Added}
 use Rattle.side.specs.declared.Added.the-variants.{Bytes, Refused}
 use Rattle.side.specs.Side.{Song, isSideFile, songsIn, isListed, listedSound}
@@ -70,6 +70,24 @@ unfoldable pub Grows : Type 0
 Grows =
     (s : List ℕ) (x : Sent) (limit : Frames) (room : ℕ) (n : BytePlace) → T (areBytes s) → Bytewise x → limit .0 < 4294967296
     → adding s (x .file) (x .number) limit room ≡ Bytes n → Grown s x n
+
+-- how long the file of a side with songs is: 68 bytes for the first twelve, the format, the heads of the chunks and the two counts,
+-- 36 for the cue and the entry of each song, and the sound
+abbrev pub sideSize : Format → ℕ → ℕ → ℕ
+sideSize f songs frames = 68 + 36 * songs + f .align * frames
+
+-- and it is within the limits
+pub record Limited (s : List ℕ) (x : Sent) (limit : Frames) : Type 0 where
+  pub songs : length (songsIn (newFile s (x .file) (x .number))) ≤ 64
+  pub frames : framesIn (newFile s (x .file) (x .number)) ≤ limit .0
+  pub size : length (newFile s (x .file) (x .number))
+      ≡ sideSize (formatIn s) (length (songsIn s) + 1) (framesIn s + framesIn (x .file))
+  pub most : length (newFile s (x .file) (x .number)) ≤ 1073741824
+
+unfoldable pub StaysWithin : Type 0
+StaysWithin =
+    (s : List ℕ) (x : Sent) (limit : Frames) (room : ℕ) (n : BytePlace) → T (areBytes s) → Bytewise x → limit .0 < 4294967296
+    → adding s (x .file) (x .number) limit room ≡ Bytes n → Limited s x limit
 
 -- ---- a listed number, whatever limit and room: 18 with the same sound, 16 with other sound
 
@@ -133,22 +151,23 @@ unfoldable pub AllSuitable : Format → List Sent → Type 0
 AllSuitable f [] = Unit {0}
 AllSuitable f (x ∷ xs) = Suitable f x × AllSuitable f xs
 
--- each number is listed at most once
+-- a number is among those sent
 unfoldable pub isSent : Donation → List Sent → Bool
 isSent n [] = false
 isSent n (x ∷ xs) = cond (eqb (x .number .0) (n .0)) true (isSent n xs)
 
+-- no number is sent twice
 unfoldable pub OnceEach : List Sent → Type 0
 OnceEach [] = Unit {0}
 OnceEach (x ∷ xs) = (isSent (x .number) xs ≡ false) × OnceEach xs
 
--- within the limits: 64 songs, the frames, and the bytes of a side with its two tables
+-- within the limits: 64 songs, the frames, and the bytes of the last file, which is the longest
 pub record WithinLimits (f : Format) (xs : List Sent) (limit : Frames) (room : ℕ) : Type 0 where
   pub songs : length xs ≤ 64
   pub frames : framesSent xs ≤ limit .0
   pub fits : limit .0 < 4294967296
-  pub size : 68 + 36 * length xs + f .align * framesSent xs ≤ 1073741824
-  pub lent : 68 + 36 * length xs + f .align * framesSent xs ≤ room
+  pub size : sideSize f (length xs) (framesSent xs) ≤ 1073741824
+  pub lent : sideSize f (length xs) (framesSent xs) ≤ room
 
 -- an empty side s then has exactly those songs, in that order
 pub record Complete (s t : List ℕ) (xs : List Sent) : Type 0 where
@@ -177,19 +196,24 @@ NoneLost =
     (xs : List Sent) (s : List ℕ) (limit : Frames) (room : ℕ) → T (areBytes s) → isSideFile s ≡ true → AllBytewise xs
     → limit .0 < 4294967296 → Keeps s (addAll limit room s xs)
 
--- and a song that arrives twice is on the side once: the second time changes nothing
+-- a song that is on the side and arrives once more changes nothing, whatever was sent in between
+unfoldable pub SentAgain : Type 0
+SentAgain =
+    (s : List ℕ) (x : Sent) (xs : List Sent) (limit : Frames) (room : ℕ) → T (areBytes s) → isSideFile s ≡ true
+    → isListed (x .number) (songsIn s) ≡ true → AllBytewise xs → limit .0 < 4294967296
+    → addAll limit room s (xs ++ (x ∷ [])) ≡ addAll limit room s xs
+
+-- twice in a row is as once, whether the song is added or refused
 unfoldable pub SentTwice : Type 0
 SentTwice =
-    (s : List ℕ) (x : Sent) (xs : List Sent) (limit : Frames) (room : ℕ) (n : BytePlace) → T (areBytes s) → Bytewise x
-    → limit .0 < 4294967296 → adding s (x .file) (x .number) limit room ≡ Bytes n
+    (s : List ℕ) (x : Sent) (xs : List Sent) (limit : Frames) (room : ℕ) → T (areBytes s) → Bytewise x → limit .0 < 4294967296
     → addAll limit room s (x ∷ x ∷ xs) ≡ addAll limit room s (x ∷ xs)
 
--- ---- an empty side that is written is one: a side, of those channels and that rate, without a song
-pub record Empty (s : List ℕ) (c r : ℕ) : Type 0 where
+-- ---- an empty side that is written is one: a side of those channels and that rate, without a song
+pub record Empty (s : List ℕ) (channels rate : ℕ) : Type 0 where
   pub bytes : T (areBytes s)
   pub side : isSideFile s ≡ true
-  pub channels : formatIn s .channels ≡ c
-  pub rate : formatIn s .rate ≡ r
+  pub format : formatIn s ≡ emptySide channels rate .format
   pub songs : songsIn s ≡ []
 
 unfoldable pub EmptyMade : Type 0
@@ -197,8 +221,16 @@ EmptyMade =
     (channels rate room : ℕ) (n : BytePlace) → writing (emptySide channels rate) [] room ≡ written.Bytes n
     → Empty (fileOf (emptySide channels rate) []) channels rate
 
+-- and it is written: 9 but for 1 or 2 channels and a rate of 1 to 192,000, then 14 without room for its 44 bytes
+unfoldable pub EmptyNumbered : Type 0
+EmptyNumbered =
+    (channels rate room : ℕ)
+    → writtenNumber (writing (emptySide channels rate) [] room)
+    ≡ cond (leb 1 channels && leb channels 2 && leb 1 rate && leb rate 192000) (cond (ltb room 44) 14 0) 9
+
 -- ---- the number of an answer, in the order of checks and the numbers of document 01; 0 where the song is added
 
+-- the number of a refusal, or else n
 abbrev pub orElse : Verdict → ℕ → ℕ
 orElse verdict.Accepted n = n
 orElse (verdict.Refused r) n = numberOf r

@@ -88,7 +88,7 @@ songsOf f w (c ∷ cs) [] = []
 unfoldable pub songsHeld : Record → List ℕ → List Song
 songsHeld m w = songsOf (m .format) w (cueList m) (playList m)
 
--- ---- a number among songs
+-- ---- a number among songs: the first song has it, or one of the others
 
 unfoldable pub isListed : Donation → List Song → Bool
 isListed n [] = false

@@ -27,7 +27,7 @@ use Rattle.reader.proofs.Again.{content-fits, content-kept-read}
 use Rattle.writer.specs.declared.Written.the-variants.{Bytes}
 use Rattle.writer.specs.declared.Written.the-variants as written
 use Rattle.writer.specs.File.{sizeOf, fileOf, andThen, beforeRoom, settled, answer, writing, writtenNumber}
-use Rattle.writer.specs.Demands.{Back, Again, newFile, Same, SameNumber, Numbered}
+use Rattle.writer.specs.Demands.{Back, Again, fileAgain, Same, SameNumber, Numbered}
 use Rattle.writer.proofs.Settling.{settled-says}
 use Rattle.writer.proofs.Back.{content-back}
 use Rattle.writer.proofs.Room.{not-longer}
@@ -102,8 +102,8 @@ same-again s b e =
     let m : Record = reading s .made in
     let w : List ℕ = soundIn s in
     let c : holds m w ≡ contentOf s = content-taken s refl e refl in
-    let n : ℕ = length (newFile s) in
-    let x : contentOf (newFile s) ≡ contentOf s =
+    let n : ℕ = length (fileAgain s) in
+    let x : contentOf (fileAgain s) ≡ contentOf s =
     content-written m w n (record { 0 = n }) (content-fits s c b) (again s e .written n (omega arith))
     ∙ ap (λ (y : Record). holds y w) (content-kept-read s c)
     ∙ c in

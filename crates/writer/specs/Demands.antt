@@ -35,21 +35,21 @@ Back =
 -- ---- every record that reading gives is written with that file's sound, wherever there is room for the new file, which is not
 -- longer than the old one
 
-abbrev pub newFile : List ℕ → List ℕ
-newFile s = fileOf (reading s .made) (soundIn s)
+abbrev pub fileAgain : List ℕ → List ℕ
+fileAgain s = fileOf (reading s .made) (soundIn s)
 
 pub record Rewritten (s : List ℕ) : Type 0 where
-  pub written : (room : ℕ) → length (newFile s) ≤ room
-      → writing (reading s .made) (soundIn s) room ≡ Bytes (sizeOf (newFile s))
-  pub shorter : length (newFile s) ≤ length s
+  pub written : (room : ℕ) → length (fileAgain s) ≤ room
+      → writing (reading s .made) (soundIn s) room ≡ Bytes (sizeOf (fileAgain s))
+  pub shorter : length (fileAgain s) ≤ length s
 
 unfoldable pub Again : Type 0
 Again = (s : List ℕ) → reading s .verdict ≡ verdict.Accepted → Rewritten s
 
 -- ---- what is read of a file of bytes, written and read again is the same: the record and the sound
 pub record SameAgain (s : List ℕ) : Type 0 where
-  pub read : reading (newFile s) ≡ reading s
-  pub sound : soundIn (newFile s) ≡ soundIn s
+  pub read : reading (fileAgain s) ≡ reading s
+  pub sound : soundIn (fileAgain s) ≡ soundIn s
 
 unfoldable pub Same : Type 0
 Same = (s : List ℕ) → T (areBytes s) → reading s .verdict ≡ verdict.Accepted → SameAgain s
