@@ -19,7 +19,7 @@ use Rattle.writer.proofs.Bytes.{file-bytes}
 use Rattle.side.specs.declared.Added.{Added}
 use Rattle.side.specs.Side.{Song, songsIn, isListed, listedSound}
 use Rattle.side.specs.Adding.{suits, withSong, newRecord, newSound, newFile, holding}
-use Rattle.side.specs.Demands.{framesIn, formatIn, songFrom, Grown, Grows, StaysWithin, Listed, OnceListed, AddedAgain, LeavesAll}
+use Rattle.side.specs.Demands.{framesIn, formatIn, fileWith, songFrom, Grown, Grows, StaysWithin, Listed, OnceListed, AddedAgain, LeavesAll}
 use Rattle.side.proofs.Growing.{songs-count}
 use Rattle.side.proofs.Answers.{added-says, empty-added, listed-added}
 use Rattle.side.proofs.Sides.{held-made, held-sound, held-side, held-songs, standing, song-long}
@@ -34,7 +34,7 @@ grows s x limit room n b y l e =
     let k = p .0 in
     let m : Record = newRecord s (x .file) (x .number) in
     let w : List ℕ = newSound s (x .file) in
-    let new : List ℕ = newFile s (x .file) (x .number) in
+    let new : List ℕ = fileWith s x in
     let fits = new-fits k b (y .number) l in
     let c : contentOf new ≡ holds m w = content-written m w room n fits (p .1) ∙ ap (λ (z : Record). holds z w) (new-kept k) in
     record {
@@ -58,7 +58,7 @@ stays-within s x limit room n b y l e =
     let c = songs-count (standing s (k .side)) in
     let f = g .frames in
     let one : List Song = songFrom (framesIn s) x ∷ [] in
-    let i : length (songsIn (newFile s (x .file) (x .number))) ≡ length (songsIn s) + 1 = ap length (g .songs) ∙ length-append (songsIn s) one in
+    let i : length (songsIn (fileWith s x)) ≡ length (songsIn s) + 1 = ap length (g .songs) ∙ length-append (songsIn s) one in
     record {
       songs = omega (arith, k .few);
       frames = omega (arith, k .within);
@@ -100,7 +100,7 @@ unfolding AddedAgain Grows OnceListed isListed listedSound
 added-again s x limit room n b y l e t later lent v f =
     let k = added-says s (x .file) (x .number) limit room n e .0 in
     let g : Grown s x n = grows s x limit room n b y l e in
-    let new : List ℕ = newFile s (x .file) (x .number) in
+    let new : List ℕ = fileWith s x in
     let one : List Song = songFrom (framesIn s) x ∷ [] in
     let own = eq-eqb (x .number .0) (x .number .0) refl in
     let i : isListed (x .number) (songsIn new) ≡ true =

@@ -16,7 +16,7 @@ use Rattle.writer.proofs.Demands.{accepted}
 use Rattle.side.specs.declared.Added.the-variants.{Bytes}
 use Rattle.side.specs.Side.{Song, isSideFile, songsIn, isListed}
 use Rattle.side.specs.Adding.{newRecord, newSound, newFile, told, adding}
-use Rattle.side.specs.Demands.{framesIn, formatIn, Sent, songFrom, Grown, Grows, sideSize, framesSent, AllSuitable, isSent, OnceEach}
+use Rattle.side.specs.Demands.{framesIn, formatIn, fileWith, Sent, songFrom, Grown, Grows, sideSize, framesSent, AllSuitable, isSent, OnceEach}
 use Rattle.side.proofs.Growing.{songs-count}
 use Rattle.side.proofs.Answers.{Taking, taking-added}
 use Rattle.side.proofs.Sides.{standing}
@@ -60,7 +60,7 @@ pub record Ready (s : List ℕ) (xs : List Sent) (limit : Frames) (room : ℕ) :
 -- the first is taken
 module _ (s : List ℕ) (x : Sent) (xs : List Sent) (limit : Frames) (room : ℕ) (k : Ready s (x ∷ xs) limit room) where
   abbrev new : List ℕ
-  new = newFile s (x .file) (x .number)
+  new = fileWith s x
 
   first-taken : Taking s (x .file) (x .number) limit
   unfolding AllSuitable NoneListed framesSent

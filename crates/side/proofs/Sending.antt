@@ -16,7 +16,7 @@ use Rattle.side.specs.declared.Added.{Added}
 use Rattle.side.specs.declared.Added.the-variants.{Bytes, Refused}
 use Rattle.side.specs.Side.{Song, cueList, playList, tiled, songsHeld, isSideFile, songsIn, isListed}
 use Rattle.side.specs.Adding.{newFile, adding}
-use Rattle.side.specs.Demands.{framesIn, formatIn, Sent, songFrom, AddedAgain, sideAfter, addAll, inRow, framesSent, Grown, Grows, AllBytewise, Keeps, NoneLost, AllAdded, SentAgain, SentTwice}
+use Rattle.side.specs.Demands.{framesIn, formatIn, fileWith, Sent, songFrom, AddedAgain, sideAfter, addAll, inRow, framesSent, Grown, Grows, AllBytewise, Keeps, NoneLost, AllAdded, SentAgain, SentTwice}
 use Rattle.side.proofs.Songs.{side-tiled}
 use Rattle.side.proofs.Growing.{Standing, counts-same, songs-count}
 use Rattle.side.proofs.Answers.{added-says}
@@ -28,20 +28,20 @@ use Rattle.side.proofs.Ready.{NoneListed, none-first, Ready, first-writ
 -- ---- the first of a list, where it is added
 first-added : (limit : Frames) (room : ℕ) (s : List ℕ) (x : Sent) (xs : List Sent) {n : BytePlace}
     → adding s (x .file) (x .number) limit room ≡ Bytes n
-    → addAll limit room s (x ∷ xs) ≡ addAll limit room (newFile s (x .file) (x .number)) xs
+    → addAll limit room s (x ∷ xs) ≡ addAll limit room (fileWith s x) xs
 unfolding addAll
 first-added limit room s x xs e =
-    ap (λ (a : Added). addAll limit room (sideAfter a s (newFile s (x .file) (x .number))) xs) e
+    ap (λ (a : Added). addAll limit room (sideAfter a s (fileWith s x)) xs) e
 
 pub sent-twice : SentTwice
 unfolding SentTwice AddedAgain addAll
 sent-twice s x xs limit room b y l = by (adding s (x .file) (x .number) limit room) refl
   where
     by : (a : Added) → adding s (x .file) (x .number) limit room ≡ a → addAll limit room s (x ∷ x ∷ xs) ≡ addAll limit room s (x ∷ xs)
-    by (Refused r) e = ap (λ (a : Added). addAll limit room (sideAfter a s (newFile s (x .file) (x .number))) (x ∷ xs)) e
+    by (Refused r) e = ap (λ (a : Added). addAll limit room (sideAfter a s (fileWith s x)) (x ∷ xs)) e
     by (Bytes n) e =
         let k = added-says s (x .file) (x .number) limit room n e .0 in
-        let new : List ℕ = newFile s (x .file) (x .number) in
+        let new : List ℕ = fileWith s x in
         let r : adding new (x .file) (x .number) limit room ≡ Refused AlreadyListed =
         added-again s x limit room n b y l e (x .file) limit room (k .taken) (k .suited) .same refl in
         first-added limit room s x (x ∷ xs) e
@@ -51,19 +51,20 @@ sent-twice s x xs limit room b y l = by (adding s (x .file) (x .number) limit ro
 -- ---- whatever is sent
 pub none-lost : NoneLost
 unfolding NoneLost AllBytewise addAll Grows
-none-lost [] s limit room b e y l = record { side = e; more = []; songs = sym (append-nil (songsIn s)) }
+none-lost [] s limit room b e y l = record { side = e; format = refl; more = []; songs = sym (append-nil (songsIn s)) }
 none-lost (x ∷ xs) s limit room b e y l =
     by (adding s (x .file) (x .number) limit room) refl (λ t c f. none-lost xs t limit room c f (y .1) l)
   where
     by : (a : Added) → adding s (x .file) (x .number) limit room ≡ a
         → ((t : List ℕ) → T (areBytes t) → isSideFile t ≡ true → Keeps t (addAll limit room t xs))
-        → Keeps s (addAll limit room (sideAfter a s (newFile s (x .file) (x .number))) xs)
+        → Keeps s (addAll limit room (sideAfter a s (fileWith s x)) xs)
     by (Bytes n) h next =
         let g : Grown s x n = grows s x limit room n b (y .0) l h in
-        let k = next (newFile s (x .file) (x .number)) (g .bytes) (g .side) in
+        let k = next (fileWith s x) (g .bytes) (g .side) in
         let one : List Song = songFrom (framesIn s) x ∷ [] in
         record {
           side = k .side;
+          format = k .format ∙ g .format;
           more = one ++ k .more;
           songs = k .songs ∙ ap (λ (ys : List Song). ys ++ k .more) (g .songs) ∙ append-assoc (songsIn s) one (k .more);
         }
@@ -74,7 +75,7 @@ listed-stays : (limit : Frames) (room : ℕ) (s : List ℕ) (x : Sent) → isLis
 unfolding addAll
 listed-stays limit room s x e = by (adding s (x .file) (x .number) limit room) refl
   where
-    by : (a : Added) → adding s (x .file) (x .number) limit room ≡ a → sideAfter a s (newFile s (x .file) (x .number)) ≡ s
+    by : (a : Added) → adding s (x .file) (x .number) limit room ≡ a → sideAfter a s (fileWith s x) ≡ s
     by (Bytes n) h = absurd (subst T (sym e ∙ added-says s (x .file) (x .number) limit room n h .0 .fresh) tt)
     by (Refused r) h = refl
 
@@ -83,7 +84,7 @@ sent-behind : (limit : Frames) (room : ℕ) (xs ys : List Sent) (s : List ℕ)
 unfolding addAll
 sent-behind limit room [] ys s = refl
 sent-behind limit room (x ∷ xs) ys s =
-    sent-behind limit room xs ys (sideAfter (adding s (x .file) (x .number) limit room) s (newFile s (x .file) (x .number)))
+    sent-behind limit room xs ys (sideAfter (adding s (x .file) (x .number) limit room) s (fileWith s x))
 
 pub sent-again : SentAgain
 unfolding SentAgain NoneLost
@@ -105,7 +106,7 @@ unfolding addAll inRow
 all-reached [] s limit room k = record { side = k .side; format = refl; songs = sym (append-nil (songsIn s)) }
 all-reached (x ∷ xs) s limit room k =
     let g = first-grown s x xs limit room k in
-    let new : List ℕ = newFile s (x .file) (x .number) in
+    let new : List ℕ = fileWith s x in
     let h = all-reached xs new limit room (next-ready s x xs limit room k) in
     let y : Song = songFrom (framesIn s) x in
     subst (λ (t : List ℕ). Reached s t (x ∷ xs)) (sym (first-added limit room s x xs (first-written s x xs limit room k)))

@@ -42,6 +42,10 @@ pub record Bytewise (x : Sent) : Type 0 where
   pub file : T (areBytes (x .file))
   pub number : x .number .0 < 4294967296
 
+-- the file that adding it to a side file s makes
+abbrev pub fileWith : List ℕ → Sent → List ℕ
+fileWith s x = newFile s (x .file) (x .number)
+
 -- the song that stands from a frame on
 abbrev pub songFrom : ℕ → Sent → Song
 songFrom at x =
@@ -58,13 +62,13 @@ songFrom at x =
 -- the file that adding x to a side file s makes, n bytes long: a side of the same format, whose running order is the old one with
 -- one song more at the end; so every old song keeps its number, position, place, length and its sound, byte for byte
 pub record Grown (s : List ℕ) (x : Sent) (n : BytePlace) : Type 0 where
-  pub long : n ≡ sizeOf (newFile s (x .file) (x .number))
-  pub bytes : T (areBytes (newFile s (x .file) (x .number)))
-  pub side : isSideFile (newFile s (x .file) (x .number)) ≡ true
-  pub format : formatIn (newFile s (x .file) (x .number)) ≡ formatIn s
-  pub frames : framesIn (newFile s (x .file) (x .number)) ≡ framesIn s + framesIn (x .file)
-  pub songs : songsIn (newFile s (x .file) (x .number)) ≡ songsIn s ++ (songFrom (framesIn s) x ∷ [])
-  pub sound : soundIn (newFile s (x .file) (x .number)) ≡ soundIn s ++ soundIn (x .file)
+  pub long : n ≡ sizeOf (fileWith s x)
+  pub bytes : T (areBytes (fileWith s x))
+  pub side : isSideFile (fileWith s x) ≡ true
+  pub format : formatIn (fileWith s x) ≡ formatIn s
+  pub frames : framesIn (fileWith s x) ≡ framesIn s + framesIn (x .file)
+  pub songs : songsIn (fileWith s x) ≡ songsIn s ++ (songFrom (framesIn s) x ∷ [])
+  pub sound : soundIn (fileWith s x) ≡ soundIn s ++ soundIn (x .file)
 
 unfoldable pub Grows : Type 0
 Grows =
@@ -78,11 +82,10 @@ sideSize f songs frames = 68 + 36 * songs + f .align * frames
 
 -- and it is within the limits
 pub record Limited (s : List ℕ) (x : Sent) (limit : Frames) : Type 0 where
-  pub songs : length (songsIn (newFile s (x .file) (x .number))) ≤ 64
-  pub frames : framesIn (newFile s (x .file) (x .number)) ≤ limit .0
-  pub size : length (newFile s (x .file) (x .number))
-      ≡ sideSize (formatIn s) (length (songsIn s) + 1) (framesIn s + framesIn (x .file))
-  pub most : length (newFile s (x .file) (x .number)) ≤ 1073741824
+  pub songs : length (songsIn (fileWith s x)) ≤ 64
+  pub frames : framesIn (fileWith s x) ≤ limit .0
+  pub size : length (fileWith s x) ≡ sideSize (formatIn s) (length (songsIn s) + 1) (framesIn s + framesIn (x .file))
+  pub most : length (fileWith s x) ≤ 1073741824
 
 unfoldable pub StaysWithin : Type 0
 StaysWithin =
@@ -103,9 +106,8 @@ OnceListed =
 
 -- so it is of the file that adding x made, for every song file t sent under the same number afterwards
 pub record Known (s : List ℕ) (x : Sent) (t : List ℕ) (limit : Frames) (room : ℕ) : Type 0 where
-  pub same : soundIn t ≡ soundIn (x .file) → adding (newFile s (x .file) (x .number)) t (x .number) limit room ≡ Refused AlreadyListed
-  pub other : (soundIn t ≡ soundIn (x .file) → ⊥)
-      → adding (newFile s (x .file) (x .number)) t (x .number) limit room ≡ Refused SongEmptyOrDifferent
+  pub same : soundIn t ≡ soundIn (x .file) → adding (fileWith s x) t (x .number) limit room ≡ Refused AlreadyListed
+  pub other : (soundIn t ≡ soundIn (x .file) → ⊥) → adding (fileWith s x) t (x .number) limit room ≡ Refused SongEmptyOrDifferent
 
 unfoldable pub AddedAgain : Type 0
 AddedAgain =
@@ -128,8 +130,7 @@ sideAfter (Refused r) old new = old
 
 unfoldable pub addAll : Frames → ℕ → List ℕ → List Sent → List ℕ
 addAll limit room s [] = s
-addAll limit room s (x ∷ xs) =
-    addAll limit room (sideAfter (adding s (x .file) (x .number) limit room) s (newFile s (x .file) (x .number))) xs
+addAll limit room s (x ∷ xs) = addAll limit room (sideAfter (adding s (x .file) (x .number) limit room) s (fileWith s x)) xs
 
 -- the songs sent, in that order, one behind the other from a frame on
 unfoldable pub inRow : ℕ → List Sent → List Song
@@ -184,6 +185,7 @@ AllAdded =
 -- whatever is sent, however often and in whatever order: the songs that a side s has stay on it, first, in order and unchanged
 pub record Keeps (s t : List ℕ) : Type 0 where
   pub side : isSideFile t ≡ true
+  pub format : formatIn t ≡ formatIn s
   pub more : List Song
   pub songs : songsIn t ≡ songsIn s ++ more
 
