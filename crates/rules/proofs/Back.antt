@@ -1,7 +1,7 @@
 -- The chunks that are written of a record get the record's own verdict, and say the record again: chunk by chunk, as far
 -- as the demands before are met. Assumes nothing.
 use mathlib.Core.Path.{_≡_, refl, sym, ap, _∙_, subst}
-use mathlib.Core.Bool.{Bool, true, false, cond, _&&_}
+use mathlib.Core.Bool.{Bool, true, false, cond}
 use mathlib.Core.List.{List, [], _∷_}
 use Prim.Native.Nat.{ℕ, _≤_, _<_}
 use native.Mathlib.Omega.{arith}
@@ -9,7 +9,6 @@ use lib.Dec.{leb}
 use lib.ListN.{length}
 use borrow.Author.Tests.{le-leb, lt-leb, leb-true, leb-false}
 use Rattle.little.specs.Numbers.{numberAt}
-use Rattle.lists.proofs.Laws.{and-both}
 use Rattle.units.specs.declared.BytePlace.{BytePlace}
 use Rattle.units.specs.declared.Frames.{Frames}
 use Rattle.units.specs.declared.Refusal.{Refusal}
@@ -134,9 +133,6 @@ module _ (m : Record) (n : BytePlace) (h : RecordFits m) (k : FaultSaid m n) whe
         fine-yes fact-formed ∙ ap (framesRule f n) (sym g) ∙ c)
 
 -- ---- the tables
-most : (c : ℕ) (a b : Bool) → (leb c 64 && a && b) ≡ true → c ≤ 64
-most c a b e = leb-true c 64 (and-both (leb c 64) a (and-both (leb c 64 && a) b e .0) .0)
-
 few : (c : ℕ) (P : Type 0) → (c ≤ 64 → P) → (64 < c → P) → P
 few c P f g = by (leb c 64) refl
   where

@@ -1,6 +1,6 @@
 -- Demand 2 of sides: by what an answer says of the verdict, and by what the written file holds. Assumes nothing.
 use mathlib.Core.Path.{_≡_, refl, sym, ap, _∙_}
-use mathlib.Core.Bool.{Bool, true, false, cond}
+use mathlib.Core.Bool.{Bool, true, false, cond, _||_}
 use mathlib.Core.List.{List, [], _∷_}
 use Prim.Native.Nat.{ℕ, _+_, _*_, _<_}
 use native.Mathlib.Omega.{arith}
@@ -29,17 +29,17 @@ use Rattle.side.proofs.Joining.{new-fits, new-kept, new-bytes, new-side
 -- ---- a song that is added
 pub grows : Grows
 unfolding Grows Back newFile withSong
-grows s x limit room n b y l e =
-    let p = added-says s (x .file) (x .number) limit room n e in
+grows s x limit room n h =
+    let p = added-says s (x .file) (x .number) limit room n (h .answer) in
     let k = p .0 in
     let m : Record = newRecord s (x .file) (x .number) in
     let w : List ℕ = newSound s (x .file) in
     let new : List ℕ = fileWith s x in
-    let fits = new-fits k b (y .number) l in
+    let fits = new-fits k (h .bytes) (h .sent .number) (h .fits) in
     let c : contentOf new ≡ holds m w = content-written m w room n fits (p .1) ∙ ap (λ (z : Record). holds z w) (new-kept k) in
     record {
       long = back m w room n fits (p .1) .long;
-      bytes = file-bytes m w (new-bytes k b (y .file));
+      bytes = file-bytes m w (new-bytes k (h .bytes) (h .sent .file));
       side = held-side new c ∙ new-side k;
       format = ap (λ (z : Record). z .format) (held-made new c);
       frames = ap (λ (z : Record). z .frames .0) (held-made new c);
@@ -49,10 +49,10 @@ grows s x limit room n b y l e =
 
 pub stays-within : StaysWithin
 unfolding StaysWithin Grows newFile
-stays-within s x limit room n b y l e =
-    let p = added-says s (x .file) (x .number) limit room n e in
+stays-within s x limit room n h =
+    let p = added-says s (x .file) (x .number) limit room n (h .answer) in
     let k = p .0 in
-    let g : Grown s x n = grows s x limit room n b y l e in
+    let g : Grown s x n = grows s x limit room n h in
     let m : Record = newRecord s (x .file) (x .number) in
     let w : List ℕ = newSound s (x .file) in
     let c = songs-count (standing s (k .side)) in
@@ -97,22 +97,22 @@ once-listed s t number limit room a l b c = by (leb 1 (framesIn t)) refl
 -- and it is listed in the file that adding it made
 pub added-again : AddedAgain
 unfolding AddedAgain Grows OnceListed isListed listedSound
-added-again s x limit room n b y l e t later lent v f =
-    let k = added-says s (x .file) (x .number) limit room n e .0 in
-    let g : Grown s x n = grows s x limit room n b y l e in
+added-again s x limit room n h t later lent v f =
+    let k = added-says s (x .file) (x .number) limit room n (h .answer) .0 in
+    let g : Grown s x n = grows s x limit room n h in
     let new : List ℕ = fileWith s x in
     let one : List Song = songFrom (framesIn s) x ∷ [] in
     let own = eq-eqb (x .number .0) (x .number .0) refl in
     let i : isListed (x .number) (songsIn new) ≡ true =
     ap (isListed (x .number)) (g .songs)
     ∙ listed-behind (x .number) (songsIn s) one (k .fresh)
-    ∙ ap (λ (q : Bool). cond q true false) own in
+    ∙ ap (λ (q : Bool). q || false) own in
     let j : listedSound (x .number) (songsIn new) ≡ soundIn (x .file) =
     ap (listedSound (x .number)) (g .songs)
     ∙ sound-behind (x .number) (songsIn s) one (k .fresh)
     ∙ ap (λ (q : Bool). cond q (soundIn (x .file)) []) own in
     let o = once-listed new t (x .number) later lent (g .side) i v (ap (λ (z : Format). suits z (formatIn t)) (g .format) ∙ f) in
-    record { same = λ h. o .same (h ∙ sym j); other = λ h. o .other (λ z. h (z ∙ j)) }
+    record { same = λ e. o .same (e ∙ sym j); other = λ e. o .other (λ z. e (z ∙ j)) }
 
 pub leaves-all : LeavesAll
 unfolding LeavesAll

@@ -1,7 +1,7 @@
 -- A number among songs: behind others, and that each song of a side has some sound, since the cues tile its frames and no entry is
 -- empty. Assumes nothing.
 use mathlib.Core.Path.{_≡_, refl, sym, ap, _∙_, subst}
-use mathlib.Core.Bool.{Bool, true, false, cond, _&&_}
+use mathlib.Core.Bool.{Bool, true, false, cond, _&&_, _||_}
 use mathlib.Core.List.{List, [], _∷_, _++_}
 use Prim.Native.Nat.{ℕ, suc, _+_, _*_, _≤_, _<_}
 use native.Mathlib.Nat.{mul-add, mul-le-mul-left}
@@ -25,7 +25,7 @@ use Rattle.side.proofs.Songs.{by-tiles, side-tiled}
 use Rattle.side.proofs.Growing.{Standing, sound-long}
 
 -- ---- a number that the first songs do not have
-pub neither : (a b : Bool) → cond a true b ≡ false → (a ≡ false) × (b ≡ false)
+pub neither : (a b : Bool) → (a || b) ≡ false → (a ≡ false) × (b ≡ false)
 neither true b e = absurd (subst T e tt)
 neither false b e = (refl, e)
 
@@ -35,15 +35,15 @@ module _ (number : Donation) where
   listed-behind [] ys e = refl
   listed-behind (x ∷ xs) ys e =
       let p = neither (eqb (x .number .0) (number .0)) (isListed number xs) e in
-      ap (λ (b : Bool). cond b true (isListed number (xs ++ ys))) (p .0) ∙ listed-behind xs ys (p .1)
+      ap (λ (b : Bool). b || isListed number (xs ++ ys)) (p .0) ∙ listed-behind xs ys (p .1)
 
   pub listed-before : (xs ys : List Song) → isListed number xs ≡ true → isListed number (xs ++ ys) ≡ true
   unfolding isListed
   listed-before [] ys e = absurd (subst T (sym e) tt)
   listed-before (x ∷ xs) ys e = by (eqb (x .number .0) (number .0)) e (listed-before xs ys)
     where
-      by : (b : Bool) → cond b true (isListed number xs) ≡ true → (isListed number xs ≡ true → isListed number (xs ++ ys) ≡ true)
-          → cond b true (isListed number (xs ++ ys)) ≡ true
+      by : (b : Bool) → (b || isListed number xs) ≡ true → (isListed number xs ≡ true → isListed number (xs ++ ys) ≡ true)
+          → (b || isListed number (xs ++ ys)) ≡ true
       by true h k = refl
       by false h k = k h
 
@@ -85,7 +85,7 @@ module _ (f : Format) (w : List ℕ) (frames : ℕ) (a : 1 ≤ f .align) (l : le
     where
       first : (b : Bool) (v : List ℕ) (xs : List Song) → 1 ≤ length v
           → (isListed number xs ≡ true → 1 ≤ length (listedSound number xs))
-          → cond b true (isListed number xs) ≡ true → 1 ≤ length (cond b v (listedSound number xs))
+          → (b || isListed number xs) ≡ true → 1 ≤ length (cond b v (listedSound number xs))
       first true v xs i k j = i
       first false v xs i k j = k j
 

@@ -1,6 +1,6 @@
 -- A side that is ready for songs takes the first of them, and its new file is ready for the others. Assumes nothing.
 use mathlib.Core.Path.{_≡_, refl, sym, ap, _∙_, subst}
-use mathlib.Core.Bool.{Bool, true, false, cond}
+use mathlib.Core.Bool.{Bool, true, false, _||_}
 use mathlib.Core.List.{List, [], _∷_, _++_}
 use Prim.Native.Nat.{ℕ, _+_, _*_, _≤_, _<_}
 use native.Mathlib.Nat.{mul-le-mul-left}
@@ -43,7 +43,7 @@ none-behind ys y (x ∷ xs) h e =
     let p = neither (eqb (x .number .0) (y .number .0)) (isSent (y .number) xs) e in
     let d = eqb-false (x .number .0) (y .number .0) (p .0) in
     let q = ne-eqb (y .number .0) (x .number .0) (λ z. d (sym z)) in
-    (listed-behind (x .number) ys (y ∷ []) (h .0) ∙ ap (λ (b : Bool). cond b true false) q, none-behind ys y xs (h .1) (p .1))
+    (listed-behind (x .number) ys (y ∷ []) (h .0) ∙ ap (λ (b : Bool). b || false) q, none-behind ys y xs (h .1) (p .1))
 
 pub record Ready (s : List ℕ) (xs : List Sent) (limit : Frames) (room : ℕ) : Type 0 where
   pub bytes : T (areBytes s)
@@ -91,7 +91,9 @@ module _ (s : List ℕ) (x : Sent) (xs : List Sent) (limit : Frames) (room : ℕ
 
   pub first-grown : Grown s x (sizeOf new)
   unfolding Grows AllSuitable
-  first-grown = grows s x limit room (sizeOf new) (k .bytes) (k .suited .0 .bytewise) (k .fits) first-written
+  first-grown =
+      grows s x limit room (sizeOf new)
+      (record { bytes = k .bytes; sent = k .suited .0 .bytewise; fits = k .fits; answer = first-written })
 
   -- and its file is ready for the others
   pub next-ready : Ready new xs limit room

@@ -43,7 +43,7 @@ sent-twice s x xs limit room b y l = by (adding s (x .file) (x .number) limit ro
         let k = added-says s (x .file) (x .number) limit room n e .0 in
         let new : List ℕ = fileWith s x in
         let r : adding new (x .file) (x .number) limit room ≡ Refused AlreadyListed =
-        added-again s x limit room n b y l e (x .file) limit room (k .taken) (k .suited) .same refl in
+        added-again s x limit room n (record { bytes = b; sent = y; fits = l; answer = e }) (x .file) limit room (k .taken) (k .suited) .same refl in
         first-added limit room s x (x ∷ xs) e
         ∙ ap (λ (a : Added). addAll limit room (sideAfter a new (newFile new (x .file) (x .number))) xs) r
         ∙ sym (first-added limit room s x xs e)
@@ -59,7 +59,7 @@ none-lost (x ∷ xs) s limit room b e y l =
         → ((t : List ℕ) → T (areBytes t) → isSideFile t ≡ true → Keeps t (addAll limit room t xs))
         → Keeps s (addAll limit room (sideAfter a s (fileWith s x)) xs)
     by (Bytes n) h next =
-        let g : Grown s x n = grows s x limit room n b (y .0) l h in
+        let g : Grown s x n = grows s x limit room n (record { bytes = b; sent = y .0; fits = l; answer = h }) in
         let k = next (fileWith s x) (g .bytes) (g .side) in
         let one : List Song = songFrom (framesIn s) x ∷ [] in
         record {

@@ -1,6 +1,6 @@
 -- Cues and entries that tile the frames, by induction from the last one back; and the songs that they are. Assumes nothing.
 use mathlib.Core.Path.{_≡_, refl, sym, ap, _∙_, subst}
-use mathlib.Core.Bool.{Bool, true, cond, _&&_}
+use mathlib.Core.Bool.{Bool, true, false, cond, _&&_, _||_}
 use mathlib.Core.List.{List, [], _∷_, _++_, map}
 use Prim.Native.Nat.{ℕ, suc, _+_, _*_, _≤_}
 use native.Mathlib.Nat.{mul-add, mul-le-mul-left}
@@ -77,6 +77,10 @@ songs-long f w [] ps e = refl
 songs-long f w (c ∷ cs) [] e = sym e
 songs-long f w (c ∷ cs) (p ∷ ps) e = ap suc (songs-long f w cs ps (omega arith))
 
+or-cond : (a b : Bool) → (a || b) ≡ cond a true b
+or-cond true b = refl
+or-cond false b = refl
+
 -- a number is listed where a cue has it as its name
 pub songs-named : (n : Donation) (f : Format) (w : List ℕ) (cs : List Cue) (ps : List Play) → length cs ≡ length ps
     → isListed n (songsOf f w cs ps) ≡ has (n .0) (map nameOf cs)
@@ -84,7 +88,9 @@ unfolding songsOf isListed has indexIn
 songs-named n f w [] ps e = refl
 songs-named n f w (c ∷ cs) [] e = absurd (omega arith)
 songs-named n f w (c ∷ cs) (p ∷ ps) e =
-    ap (cond (eqb (c .name .0) (n .0)) true) (songs-named n f w cs ps (omega arith)) ∙ sym (has-first (n .0) (c .name .0) (map nameOf cs))
+    or-cond (eqb (c .name .0) (n .0)) (isListed n (songsOf f w cs ps))
+    ∙ ap (cond (eqb (c .name .0) (n .0)) true) (songs-named n f w cs ps (omega arith))
+    ∙ sym (has-first (n .0) (c .name .0) (map nameOf cs))
 
 -- ---- more sound behind the old
 module _ (f : Format) (w v : List ℕ) where

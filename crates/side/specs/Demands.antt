@@ -59,6 +59,13 @@ songFrom at x =
 
 -- ---- where a song is added
 
+-- adding x to a side file s gives a new file of n bytes; the limit is a number of 32 bits
+pub record Adds (s : List ℕ) (x : Sent) (limit : Frames) (room : ℕ) (n : BytePlace) : Type 0 where
+  pub bytes : T (areBytes s)
+  pub sent : Bytewise x
+  pub fits : limit .0 < 4294967296
+  pub answer : adding s (x .file) (x .number) limit room ≡ Bytes n
+
 -- the file that adding x to a side file s makes, n bytes long: a side of the same format, whose running order is the old one with
 -- one song more at the end; so every old song keeps its number, position, place, length and its sound, byte for byte
 pub record Grown (s : List ℕ) (x : Sent) (n : BytePlace) : Type 0 where
@@ -71,9 +78,7 @@ pub record Grown (s : List ℕ) (x : Sent) (n : BytePlace) : Type 0 where
   pub sound : soundIn (fileWith s x) ≡ soundIn s ++ soundIn (x .file)
 
 unfoldable pub Grows : Type 0
-Grows =
-    (s : List ℕ) (x : Sent) (limit : Frames) (room : ℕ) (n : BytePlace) → T (areBytes s) → Bytewise x → limit .0 < 4294967296
-    → adding s (x .file) (x .number) limit room ≡ Bytes n → Grown s x n
+Grows = (s : List ℕ) (x : Sent) (limit : Frames) (room : ℕ) (n : BytePlace) → Adds s x limit room n → Grown s x n
 
 -- how long the file of a side with songs is: 68 bytes for the first twelve, the format, the heads of the chunks and the two counts,
 -- 36 for the cue and the entry of each song, and the sound
@@ -88,9 +93,7 @@ pub record Limited (s : List ℕ) (x : Sent) (limit : Frames) : Type 0 where
   pub most : length (fileWith s x) ≤ 1073741824
 
 unfoldable pub StaysWithin : Type 0
-StaysWithin =
-    (s : List ℕ) (x : Sent) (limit : Frames) (room : ℕ) (n : BytePlace) → T (areBytes s) → Bytewise x → limit .0 < 4294967296
-    → adding s (x .file) (x .number) limit room ≡ Bytes n → Limited s x limit
+StaysWithin = (s : List ℕ) (x : Sent) (limit : Frames) (room : ℕ) (n : BytePlace) → Adds s x limit room n → Limited s x limit
 
 -- ---- a listed number, whatever limit and room: 18 with the same sound, 16 with other sound
 
@@ -111,8 +114,7 @@ pub record Known (s : List ℕ) (x : Sent) (t : List ℕ) (limit : Frames) (room
 
 unfoldable pub AddedAgain : Type 0
 AddedAgain =
-    (s : List ℕ) (x : Sent) (limit : Frames) (room : ℕ) (n : BytePlace) → T (areBytes s) → Bytewise x → limit .0 < 4294967296
-    → adding s (x .file) (x .number) limit room ≡ Bytes n
+    (s : List ℕ) (x : Sent) (limit : Frames) (room : ℕ) (n : BytePlace) → Adds s x limit room n
     → (t : List ℕ) (later : Frames) (lent : ℕ) → reading t .verdict ≡ verdict.Accepted → suits (formatIn s) (formatIn t) ≡ true
     → Known s x t later lent
 
@@ -155,7 +157,7 @@ AllSuitable f (x ∷ xs) = Suitable f x × AllSuitable f xs
 -- a number is among those sent
 unfoldable pub isSent : Donation → List Sent → Bool
 isSent n [] = false
-isSent n (x ∷ xs) = cond (eqb (x .number .0) (n .0)) true (isSent n xs)
+isSent n (x ∷ xs) = eqb (x .number .0) (n .0) || isSent n xs
 
 -- no number is sent twice
 unfoldable pub OnceEach : List Sent → Type 0

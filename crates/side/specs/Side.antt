@@ -1,6 +1,6 @@
 -- What a side is, and its songs in their running order. Assumes nothing.
 use Prim.Native.Nat.{ℕ, _+_, _*_}
-use mathlib.Core.Bool.{Bool, true, false, cond, _&&_}
+use mathlib.Core.Bool.{Bool, false, cond, _&&_, _||_}
 use mathlib.Core.List.{List, [], _∷_}
 use lib.Dec.{eqb}
 use lib.ListN.{take, drop, getD}
@@ -92,7 +92,7 @@ songsHeld m w = songsOf (m .format) w (cueList m) (playList m)
 
 unfoldable pub isListed : Donation → List Song → Bool
 isListed n [] = false
-isListed n (x ∷ xs) = cond (eqb (x .number .0) (n .0)) true (isListed n xs)
+isListed n (x ∷ xs) = eqb (x .number .0) (n .0) || isListed n xs
 
 -- the sound of the song that has it
 unfoldable pub listedSound : Donation → List Song → List ℕ
