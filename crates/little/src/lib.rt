@@ -178,12 +178,12 @@ fn same_few(a: &[u8], b: &[u8], from: usize) -> bool
     requires { ⌜ (length (now a) ≡ length (now b)) × (from ≤ length (now a)) ⌝ }
     ensures { λ r. ⌜ r ≡ sameBytes (drop from (now (a .entry))) (drop from (now (b .entry))) ⌝ }
 {
-    let mut i = from;
-    while i < a.len() {
-        if a[i] != b[i] {
+    let mut at = from;
+    while at < a.len() {
+        if a[at] != b[at] {
             return false;
         }
-        i += 1;
+        at += 1;
     }
     true
 }

@@ -1,4 +1,4 @@
--- Those before i are the same; a byte differs, or all are passed.
+-- Those before the place are the same; a byte differs, or all are passed.
 use Prim.Native.Nat.{_-_}
 use lib.ListN.{length, drop}
 use Rattle.little.specs.Same.{sameBytes}
@@ -8,10 +8,10 @@ use Rattle.little.proofs.same_few.Statement.{statement}
 use Rattle.little.proofs.same_few.Tie as tie
 
 abbrev Inv-loop : tie.InvT-loop
-Inv-loop a b from i₀ i = Alike a b (sameBytes (drop from a) (drop from b)) i
+Inv-loop a b from at₀ at = Alike a b (sameBytes (drop from a) (drop from b)) at
 
 abbrev μ-loop : tie.MeasureT-loop
-μ-loop a b from i₀ i = length a - i
+μ-loop a b from at₀ at = length a - at
 
 pub same-few-spec : {M : Type 1} → statement M
 same-few-spec =
