@@ -17,7 +17,7 @@ use Rattle.reader.specs.Content.{Content, holds}
 use Rattle.reader.proofs.Kept.{content-kept}
 use Rattle.steps.specs.Quality.{Faithful}
 use Rattle.blocks.specs.Block.{samplesPerBlock, framesIn, headersFine}
-use Rattle.ima.specs.declared.Written.{Written}
+use Rattle.ima.specs.declared.Coded.{Coded}
 use Rattle.ima.specs.declared.Encoded.the-variants.{Blocks}
 use Rattle.ima.specs.Encoding.{blocksFor, encodedBytes, encodeVerdict}
 use Rattle.ima.specs.Answer.{encoding}
@@ -42,7 +42,7 @@ use Rattle.approval.proofs.Rules.{samples-per, codable-is, blocks-are, 
 use Rattle.approval.proofs.Sending.{kept-same, record-fits, file-below}
 
 -- ---- what an answer that is blocks says
-encoded-says : (s : List ℤ) (c a room : ℕ) (w : Written) → encoding s c a room ≡ Blocks w → Settled (length s) c a room
+encoded-says : (s : List ℤ) (c a room : ℕ) (w : Coded) → encoding s c a room ≡ Blocks w → Settled (length s) c a room
 unfolding encoding
 encoded-says s c a room w e =
     settled-says (length s) c a room (accepted (encodeVerdict (length s) c a room) e .0)

@@ -13,7 +13,7 @@ use Rattle.rules.specs.Rules.{Writable}
 use Rattle.reader.specs.Content.{holds, contentOf}
 use Rattle.steps.specs.Quality.{Sixteen, Faithful, atMost}
 use Rattle.blocks.specs.Block.{samplesPerBlock}
-use Rattle.ima.specs.declared.Written.{Written}
+use Rattle.ima.specs.declared.Coded.{Coded}
 use Rattle.ima.specs.declared.Encoded.the-variants.{Blocks}
 use Rattle.ima.specs.Encoding.{encodedBytes, codable}
 use Rattle.ima.specs.Answer.{encoding}
@@ -39,7 +39,7 @@ unfoldable pub RuleBroken : Type 0
 RuleBroken = (s : List ℤ) (c rate a : ℕ) → codable c a ≡ false → formatRule (recordFor s c rate a .format) ≡ false
 
 -- ---- a file decodes as a sound s of c channels, coded in blocks of align a, whose chased samples are told
-pub record Copy (s : List ℤ) (c a : ℕ) (told : Written) (file : List ℕ) (room : ℕ) : Type 0 where
+pub record Copy (s : List ℤ) (c a : ℕ) (told : Coded) (file : List ℕ) (room : ℕ) : Type 0 where
   -- all its frames come back
   pub frames : decoding file room ≡ Frames (record { 0 = length s / c })
   pub long : length (fileSound file) ≡ length s
@@ -62,7 +62,7 @@ pub record Copy (s : List ℤ) (c a : ℕ) (told : Written) (file : List ℕ) (r
 -- record of the copy
 unfoldable pub Approved : Type 0
 Approved =
-    (s : List ℤ) (c rate a room most : ℕ) (told : Written) (file : List ℕ) → Sixteen s → encoding s c a room ≡ Blocks told
+    (s : List ℤ) (c rate a room most : ℕ) (told : Coded) (file : List ℕ) → Sixteen s → encoding s c a room ≡ Blocks told
     → contentOf file ≡ holds (recordFor s c rate a) (encodedBytes c a s)
     → length s ≤ most → Copy s c a told file most
 
@@ -70,7 +70,7 @@ Approved =
 -- the copy, and that file is decoded: F frames come back, and demand 3 holds of them
 unfoldable pub WholeWay : Type 0
 WholeWay =
-    (s : List ℤ) (c rate a room size most : ℕ) (told : Written) (n : BytePlace) → Sixteen s
+    (s : List ℤ) (c rate a room size most : ℕ) (told : Coded) (n : BytePlace) → Sixteen s
     → encoding s c a room ≡ Blocks told
     → writing (recordFor s c rate a) (encodedBytes c a s) size ≡ Bytes n
     → length s ≤ most
@@ -80,7 +80,7 @@ WholeWay =
 -- file: the file is never above the limit
 unfoldable pub Sent : Type 0
 Sent =
-    (s : List ℤ) (c rate a room size : ℕ) (told : Written) → encoding s c a room ≡ Blocks told → 1 ≤ rate → rate ≤ 192000
+    (s : List ℤ) (c rate a room size : ℕ) (told : Coded) → encoding s c a room ≡ Blocks told → 1 ≤ rate → rate ≤ 192000
     → length (fileOf (recordFor s c rate a) (encodedBytes c a s)) ≤ size
     → writing (recordFor s c rate a) (encodedBytes c a s) size
     ≡ Bytes (record { 0 = length (fileOf (recordFor s c rate a) (encodedBytes c a s)) })

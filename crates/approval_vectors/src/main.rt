@@ -69,7 +69,7 @@ fn chased_line(left: Frames, right: Frames) {
 }
 
 // What was written of a sound of n samples, and what is heard in it.
-fn written_lines(file: &[u8], told: ima::Written, n: usize) {
+fn written_lines(file: &[u8], told: ima::Coded, n: usize) {
     show::mixed_line(file);
     let left = told.left;
     let right = told.right;
@@ -78,7 +78,7 @@ fn written_lines(file: &[u8], told: ima::Written, n: usize) {
 }
 
 // Writes the blocks of a sound of n samples to a lent buffer.
-fn write(made: Record, blocks: &[u8], told: ima::Written, n: usize, out: &mut [u8]) {
+fn write(made: Record, blocks: &[u8], told: ima::Coded, n: usize, out: &mut [u8]) {
     match writer::write(made, blocks, out) {
         Written::Bytes(size) => written_lines(riff::bytes_from(out, 0, size.0), told, n),
         Written::Refused(refusal) => refused(b"write ", refusal),
@@ -86,7 +86,7 @@ fn write(made: Record, blocks: &[u8], told: ima::Written, n: usize, out: &mut [u
 }
 
 // The same into so many bytes.
-fn write_in(made: Record, blocks: &[u8], told: ima::Written, n: usize, room: u16) {
+fn write_in(made: Record, blocks: &[u8], told: ima::Coded, n: usize, room: u16) {
     let mut out = [170u8; 16384];
     let size = io::count(room as isize, &out);
     write(made, blocks, told, n, &mut out[..size]);

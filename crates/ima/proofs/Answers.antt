@@ -16,9 +16,9 @@ use Rattle.units.specs.declared.Verdict.{Verdict}
 use Rattle.units.specs.declared.Verdict.the-variants.{Accepted, Refused}
 use Rattle.units.specs.Refusals.{demand}
 use Rattle.units.proofs.Laws.{demand-met}
-use Rattle.ima.specs.declared.Written.{Written}
+use Rattle.ima.specs.declared.Coded.{Coded}
 use Rattle.ima.specs.Encoding.{codable, blocksFor, blockBytes, encodedBytes, chasedCount, encodeVerdict}
-use Rattle.ima.specs.Answer.{writtenOf, answer, encoding}
+use Rattle.ima.specs.Answer.{codedOf, answer, encoding}
 use Rattle.ima.proofs.Settling.{Codable, codable-says, product-fits}
 use Rattle.ima.proofs.Loops.{length-mono, length-stereo}
 
@@ -119,7 +119,7 @@ unfolding chasedCount
 absent a s = refl
 
 -- so many bytes, and so many chased samples of left and right
-abbrev told : ℕ → ℕ → ℕ → Written
+abbrev told : ℕ → ℕ → ℕ → Coded
 told b l r = record { bytes = record { 0 = b }; left = record { 0 = l }; right = record { 0 = r } }
 
 same-told : {b d l m r n : ℕ} → b ≡ d → l ≡ m → r ≡ n → told b l r ≡ told d m n
@@ -128,14 +128,14 @@ same-told {b} {d} {l} {m} {r} {n} e f g =
 
 module _ (c a room : ℕ) (s : List ℤ) (e : encodeVerdict (length s) c a room ≡ Accepted) {b : ℕ}
     (g : b ≡ blocksFor c a (length s)) where
-  pub mono-answer : {n : ℕ} → c ≡ 1 → n ≡ chasedCount 1 a s 0 → told (b * a) n 0 ≡ writtenOf c a s
-  unfolding writtenOf
+  pub mono-answer : {n : ℕ} → c ≡ 1 → n ≡ chasedCount 1 a s 0 → told (b * a) n 0 ≡ codedOf c a s
+  unfolding codedOf
   mono-answer o h =
       let w : Codable 1 a = one (length s) c a room e o .fine in
       let k : b * a ≡ length (encodedBytes 1 a s) =
       ap (λ (m : ℕ). m * a) (one-blocks (length s) c a room e o g)
       ∙ sym (length-encoded 1 a s (λ m. length-mono a s m w)) in
-      same-told k h (absent a s) ∙ ap (λ (k : ℕ). writtenOf k a s) (sym o)
+      same-told k h (absent a s) ∙ ap (λ (k : ℕ). codedOf k a s) (sym o)
 
   pub mono-buffer : (d : List ℕ) {f : List ℕ} → c ≡ 1 → f ≡ front (encodedBytes 1 a s) d
       → f ≡ front (encodedBytes c a s) d
@@ -143,14 +143,14 @@ module _ (c a room : ℕ) (s : List ℤ) (e : encodeVerdict (length s) c a room 
 
   module _ (o : c ≡ 1 → ⊥) where
     pub stereo-answer : {n m : ℕ} → n ≡ chasedCount 2 a s 0 → m ≡ chasedCount 2 a s 1
-        → told (b * a) n m ≡ writtenOf c a s
-    unfolding writtenOf
+        → told (b * a) n m ≡ codedOf c a s
+    unfolding codedOf
     stereo-answer h i =
         let w : Codable 2 a = both (length s) c a room e o .fine in
         let k : b * a ≡ length (encodedBytes 2 a s) =
         ap (λ (m : ℕ). m * a) (two-blocks (length s) c a room e o g)
         ∙ sym (length-encoded 2 a s (λ m. length-stereo a s m w)) in
-        same-told k h i ∙ ap (λ (k : ℕ). writtenOf k a s) (sym (two-channels (length s) c a room e o))
+        same-told k h i ∙ ap (λ (k : ℕ). codedOf k a s) (sym (two-channels (length s) c a room e o))
 
     pub stereo-buffer : (d : List ℕ) {f : List ℕ} → f ≡ front (encodedBytes 2 a s) d
         → f ≡ front (encodedBytes c a s) d
@@ -163,13 +163,13 @@ module _ (c a room : ℕ) (s : List ℤ) {v : Verdict} (e : v ≡ encodeVerdict 
   pub asked : v ≡ Accepted → encodeVerdict (length s) c a room ≡ Accepted
   asked f = sym e ∙ f
 
-  pub answer-blocks : {w : Written} → v ≡ Accepted → w ≡ writtenOf c a s → answer Accepted w ≡ encoding s c a room
+  pub answer-blocks : {w : Coded} → v ≡ Accepted → w ≡ codedOf c a s → answer Accepted w ≡ encoding s c a room
   unfolding encoding
   answer-blocks {w} f g =
       ap (λ (x : Verdict). answer x w) (sym f ∙ e) ∙ ap (answer (encodeVerdict (length s) c a room)) g
 
-  pub answer-refused : {r : Refusal} → v ≡ Refused r → answer (Refused r) (writtenOf c a s) ≡ encoding s c a room
+  pub answer-refused : {r : Refusal} → v ≡ Refused r → answer (Refused r) (codedOf c a s) ≡ encoding s c a room
   unfolding encoding
-  answer-refused f = ap (λ (x : Verdict). answer x (writtenOf c a s)) (sym f ∙ e)
+  answer-refused f = ap (λ (x : Verdict). answer x (codedOf c a s)) (sym f ∙ e)
 
 pub ruleset answering = (asked, answer-blocks, answer-refused)

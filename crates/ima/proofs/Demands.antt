@@ -24,11 +24,11 @@ use Rattle.units.specs.declared.Verdict.{Verdict}
 use Rattle.units.specs.declared.Verdict.the-variants.{Accepted}
 use Rattle.units.specs.Refusals.{verdictNumber}
 use Rattle.units.proofs.Laws.{demand-row}
-use Rattle.ima.specs.declared.Written.{Written}
+use Rattle.ima.specs.declared.Coded.{Coded}
 use Rattle.ima.specs.declared.Encoded.{Encoded}
 use Rattle.ima.specs.declared.Encoded.the-variants.{Blocks, Refused}
 use Rattle.ima.specs.Encoding.{blockOf, openIndex, partOf, chasedBlock, blocksFor, encodedBytes, chasedIn, chasedCount, encodeVerdict}
-use Rattle.ima.specs.Answer.{writtenOf, answer, encoding, encodedNumber}
+use Rattle.ima.specs.Answer.{codedOf, answer, encoding, encodedNumber}
 use Rattle.ima.specs.Demands.{frameOf, blockIn, heardAt, chasedAt, chasedFrames, Quality, trackedPart, trackedAt, Tracked, Numbered}
 use Rattle.ima.proofs.Settling.{Codable}
 use Rattle.ima.proofs.Answers.{Settled, settled-says}
@@ -257,17 +257,17 @@ counted-left c a s w z r =
     ∙ ap (λ (b : Bool). cond b (countOf (chasedFrames c a s (encodedBytes c a s) 0)) 0) (lt-ltb 0 c (w .some))
 
 -- ---- an answer that is blocks
-abbrev within-answer : Written → Encoded → Written
+abbrev within-answer : Coded → Encoded → Coded
 within-answer d (Blocks w) = w
 within-answer d (Refused r) = d
 
-pub accepted : (v : Verdict) {u w : Written} → answer v u ≡ Blocks w → (v ≡ Accepted) × (u ≡ w)
+pub accepted : (v : Verdict) {u w : Coded} → answer v u ≡ Blocks w → (v ≡ Accepted) × (u ≡ w)
 accepted Accepted {u} e = (refl, ap (within-answer u) e)
 accepted (Verdict.Refused r) e = let z : _≡_ {A = ℕ} 0 1 = cc in absurd (omega arith)
 
 -- the whole of demand 3
 pub quality : Quality
-unfolding Quality encoding writtenOf heardAt
+unfolding Quality encoding codedOf heardAt
 quality s c a room w z e =
     let v = accepted (encodeVerdict (length s) c a room) e in
     let t : Settled (length s) c a room = settled-says (length s) c a room (v .0) in
@@ -278,8 +278,8 @@ quality s c a room w z e =
       opening = λ ch f l h g. opens-exact c a s ch (t .fine) z (t .whole) l f h g;
       later = λ ch f l h g. later-near c a s ch (t .fine) z (t .whole) l f h g;
       succession = λ ch l. search (in-succession c a s ch (t .fine) z (t .whole) l);
-      lefts = ap (λ (u : Written). u .left .0) (sym (v .1)) ∙ counted-left c a s (t .fine) z (t .whole);
-      rights = ap (λ (u : Written). u .right .0) (sym (v .1)) ∙ counted c a s 1 (t .fine) z (t .whole);
+      lefts = ap (λ (u : Coded). u .left .0) (sym (v .1)) ∙ counted-left c a s (t .fine) z (t .whole);
+      rights = ap (λ (u : Coded). u .right .0) (sym (v .1)) ∙ counted c a s 1 (t .fine) z (t .whole);
     }
 
 -- and decoding gives what encoding tracked
@@ -291,10 +291,10 @@ tracked-back s c a room w z e ch f l h =
     heard-tracked c a s ch (t .fine) z (t .whole) l f h
 
 -- ---- the number of an answer: each demand is a row
-answer-number : (v : Verdict) (u : Written) → encodedNumber (answer v u) ≡ verdictNumber v
+answer-number : (v : Verdict) (u : Coded) → encodedNumber (answer v u) ≡ verdictNumber v
 answer-number Accepted u = refl
 answer-number (Verdict.Refused r) u = refl
 
 pub numbered : Numbered
 unfolding Numbered encoding encodeVerdict
-numbered s c a room = answer-number (encodeVerdict (length s) c a room) (writtenOf c a s) ∙ simp demand-row
+numbered s c a room = answer-number (encodeVerdict (length s) c a room) (codedOf c a s) ∙ simp demand-row

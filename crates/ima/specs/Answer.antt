@@ -6,14 +6,14 @@ use lib.ListN.{length}
 use Rattle.little.specs.Writing.{front}
 use Rattle.units.specs.declared.Verdict.{Verdict}
 use Rattle.units.specs.Refusals.{numberOf}
-use Rattle.ima.specs.declared.Written.{Written}
+use Rattle.ima.specs.declared.Coded.{Coded}
 use Rattle.ima.specs.declared.Encoded.{Encoded}
 use Rattle.ima.specs.declared.Encoded.the-variants.{Blocks, Refused}
 use Rattle.ima.specs.Encoding.{encodedBytes, chasedCount, encodeVerdict}
 
 -- what was written: the number of bytes, and the chased samples of left and right
-unfoldable pub writtenOf : ℕ → ℕ → List ℤ → Written
-writtenOf c a s =
+unfoldable pub codedOf : ℕ → ℕ → List ℤ → Coded
+codedOf c a s =
     record {
       bytes = record { 0 = length (encodedBytes c a s) };
       left = record { 0 = chasedCount c a s 0 };
@@ -21,13 +21,13 @@ writtenOf c a s =
     }
 
 -- the answer that a verdict gives
-abbrev pub answer : Verdict → Written → Encoded
+abbrev pub answer : Verdict → Coded → Encoded
 answer Verdict.Accepted w = Blocks w
 answer (Verdict.Refused r) w = Refused r
 
 -- the answer of encoding s, with room for so many bytes
 unfoldable pub encoding : List ℤ → ℕ → ℕ → ℕ → Encoded
-encoding s c a room = answer (encodeVerdict (length s) c a room) (writtenOf c a s)
+encoding s c a room = answer (encodeVerdict (length s) c a room) (codedOf c a s)
 
 -- a buffer d after it: the blocks from its start and then what it held, or all as it was
 abbrev pub holding : {A : Type 0} → Encoded → List A → List A → List A

@@ -14,7 +14,7 @@ use Rattle.steps.specs.Quality.{Sixteen, Faithful, atMost}
 use Rattle.blocks.specs.Block.{samplesPerBlock, channelPart, statesIn, framesIn, headersFine}
 use Rattle.coder.specs.Part.{countOf}
 use Rattle.units.specs.Refusals.{verdictNumber}
-use Rattle.ima.specs.declared.Written.{Written}
+use Rattle.ima.specs.declared.Coded.{Coded}
 use Rattle.ima.specs.declared.Encoded.the-variants.{Blocks}
 use Rattle.ima.specs.Encoding.{blockOf, openIndex, blocksFor, encodedBytes, codable, encodeVerdict}
 use Rattle.ima.specs.Answer.{encoding, encodedNumber}
@@ -66,7 +66,7 @@ pub record Heard (s : List ℤ) (c a : ℕ) (bytes : List ℕ) (left right : ℕ
 -- so it is for every sound of 16-bit samples, channels and align that encoding accepts
 unfoldable pub Quality : Type 0
 Quality =
-    (s : List ℤ) (c a room : ℕ) (w : Written) → Sixteen s → encoding s c a room ≡ Blocks w
+    (s : List ℤ) (c a room : ℕ) (w : Coded) → Sixteen s → encoding s c a room ≡ Blocks w
     → Heard s c a (encodedBytes c a s) (w .left .0) (w .right .0)
 
 -- ---- decoding gives exactly what encoding tracked
@@ -85,7 +85,7 @@ trackedAt c a s ch f =
 
 unfoldable pub Tracked : Type 0
 Tracked =
-    (s : List ℤ) (c a room : ℕ) (w : Written) → Sixteen s → encoding s c a room ≡ Blocks w
+    (s : List ℤ) (c a room : ℕ) (w : Coded) → Sixteen s → encoding s c a room ≡ Blocks w
     → (ch f : ℕ) → ch < c → f < length s / c → heardAt c a (encodedBytes c a s) ch f ≡ trackedAt c a s ch f
 
 -- ---- the bounds are reached: 11 in succession, and an error of s/8 + 2

@@ -5,7 +5,7 @@ ghost use lib.ListN.{length};
 ghost use Rattle.little.specs.Writing.{front};
 ghost use Rattle.units.specs.declared.Verdict.the-variants.{Accepted};
 ghost use Rattle.ima.specs.Encoding.{codable, blocksFor, encodeVerdict, encodedBytes, chasedCount};
-ghost use Rattle.ima.specs.Answer.{writtenOf, encoding, holding};
+ghost use Rattle.ima.specs.Answer.{codedOf, encoding, holding};
 use coder::Channel;
 use coder::Channels;
 use coder::mono_block;
@@ -18,7 +18,7 @@ use units::Refusal;
 use units::Verdict;
 
 // What was written: how many bytes, and the chased samples of each channel.
-pub struct Written {
+pub struct Coded {
     pub bytes: BytePlace,
     pub left: Frames,
     pub right: Frames,
@@ -26,7 +26,7 @@ pub struct Written {
 
 // The answer of encoding.
 pub enum Encoded {
-    Blocks(Written),
+    Blocks(Coded),
     Refused(Refusal),
 }
 
@@ -135,22 +135,22 @@ fn settled(samples: usize, channels: usize, align: usize, room: usize) -> Verdic
 }
 
 // Writes the blocks of a sound that the checks have passed.
-fn write_blocks(sound: &[i16], channels: usize, align: usize, out: &mut [u8]) -> Written
+fn write_blocks(sound: &[i16], channels: usize, align: usize, out: &mut [u8]) -> Coded
     requires { ⌜ encodeVerdict (length (now sound)) channels align (length (now out)) ≡ Accepted ⌝ }
-    ensures { λ r. ⌜ (r ≡ writtenOf channels align (now (sound .entry)))
+    ensures { λ r. ⌜ (r ≡ codedOf channels align (now (sound .entry)))
         × (now (out .exit) ≡ front (encodedBytes channels align (now (sound .entry))) (now (out .entry))) ⌝ }
 {
     let n = blocks_for(channels, align, sound.len());
     if channels == 1 {
         let chased = mono_blocks(sound, align, n, out);
-        return Written {
+        return Coded {
             bytes: BytePlace(n * align),
             left: Frames(chased),
             right: Frames(0),
         };
     }
     let both = stereo_blocks(sound, align, n, out);
-    Written {
+    Coded {
         bytes: BytePlace(n * align),
         left: Frames(both.left.chased),
         right: Frames(both.right.chased),

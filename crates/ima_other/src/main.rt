@@ -3,13 +3,13 @@
 // the chased samples. At most 65,536 bytes of a file are read.
 //
 // The chunks are taken as they stand: libsndfile writes a wrong fact count into stereo files.
+use ima::Coded;
 use ima::Encoded;
-use ima::Written;
 use riff::Directory;
 use riff::Walked;
 
 // What coding wrote to a lent buffer, and the chased samples.
-fn written_lines(written: Written, out: &[u8]) {
+fn written_lines(written: Coded, out: &[u8]) {
     show::word(b"coded ");
     show::mixed_line(riff::bytes_from(out, 0, written.bytes.0));
     show::field(b"chased left ", written.left.0 as u64);

@@ -4,14 +4,14 @@
 //
 // It prints the answer, a number mixed of the lent buffer and the buffer's first 32 bytes. Before that each
 // byte is 170.
+use ima::Coded;
 use ima::Encoded;
-use ima::Written;
 use libc::STDIN_FILENO;
 ghost use Prim.Native.Nat.{_-_, _≤_};
 ghost use lib.ListN.{length};
 
 // What coding gave.
-fn written_line(written: Written) {
+fn written_line(written: Coded) {
     show::field(b"bytes ", written.bytes.0 as u64);
     show::field(b" left ", written.left.0 as u64);
     show::field(b" right ", written.right.0 as u64);

@@ -78,7 +78,7 @@ said-play p rest f g h =
     }
 
 -- ---- where the entries that are read are those of a list, the table is its first entries, and zero past them
-entries-kept : {A : Type 0} (z : A) (many : ℕ → List A) (entry : ℕ → A) (list : List A)
+pub entries-kept : {A : Type 0} (z : A) (many : ℕ → List A) (entry : ℕ → A) (list : List A)
     → ((k : ℕ) → many (suc k) ≡ set (many k) k (entry k)) → many 0 ≡ replicate 64 z → length list ≡ 64
     → (n : ℕ) → n ≤ 64 → ((k : ℕ) → k < n → entry k ≡ getD list k z) → many n ≡ take n list ++ replicate (64 - n) z
 entries-kept z many entry list more begin h zero l f = begin

@@ -71,7 +71,7 @@ module _ {A : Type 0} {many : ℕ → List A} {entry : ℕ → A} {n i : ℕ} {l
       let m : set list i x ≡ set (many i) i (entry i) = simp (s, e) in
       record { upto = omega arith; more = w .more; same = m ∙ sym (w .more i) ∙ ap many (sym (add-one i)) }
 
-  list-ends : n ≤ i → list ≡ many n
+  pub list-ends : n ≤ i → list ≡ many n
   list-ends h =
       let e : i ≡ n = omega (arith, w .upto) in
       w .same ∙ ap many e
