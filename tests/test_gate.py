@@ -19,14 +19,20 @@ class Gate(unittest.TestCase):
             (self.root / 'crates/song' / folder).mkdir(parents=True)
         (self.root / 'crates/song/src/lib.rt').touch()
         (self.root / 'crates/song/specs/Song.antt').touch()
-        for label in ('lost', 'moved'):
-            (self.root / f'crates/song/must-fail/{label}.edit').touch()
-            self.refuse(label, '`f-spec`: `search`: no proof of `x`')
+        self.write('lost', 'add', 'find')
+        self.write('moved', 'eleven')
+        self.refuse('lost', '/proofs/add/Proof.antt:3:1: error: `add-spec`: `search`: no proof of `x`',
+                    '/proofs/song/find/Proof.antt:3:1: error: `find-spec`: `omega`: the goal does not follow')
+        self.refuse('moved', '/proofs/Demands.antt:3:1: error: `eleven`: `simp`: no rule')
 
-    def refuse(self, label, first_error):
+    def write(self, label, *names):
+        lines = [f'# in {name}: a song is lost\nfile: src/lib.rt\nold: 1\nnew: 2\n' for name in names]
+        (self.root / f'crates/song/must-fail/{label}.edit').write_text(''.join(lines))
+
+    def refuse(self, label, *errors):
         log = self.root / f'target/must-fail/song/{label}/.log'
         log.parent.mkdir(parents=True, exist_ok=True)
-        log.write_text(f'a note\nproofs/f/Proof.antt:3:1: error: {first_error}\n')
+        log.write_text('a note\n' + '\n'.join(errors) + '\n')
 
     def said(self, word):
         """What the check prints, and that its exit status agrees."""
@@ -42,7 +48,7 @@ class Gate(unittest.TestCase):
         (self.root / 'crates/side').mkdir()
         self.assertIn('crates/side has no line', self.said('layout'))
 
-    def test_a_library_with_one_edit(self):
+    def test_a_library_with_one_wrong_program(self):
         (self.root / 'crates/song/must-fail/lost.edit').unlink()
         self.assertIn('fewer than two', self.said('layout'))
 
@@ -50,13 +56,28 @@ class Gate(unittest.TestCase):
         (self.root / 'crates/song/must-fail/lost.edti').touch()
         self.assertIn('lost.edti is no edit', self.said('layout'))
 
-    def test_an_edit_that_only_misfits(self):
-        self.refuse('lost', '`f-spec`: this λ has 2 binders, but its type has room for only 1')
-        self.assertIn('song/lost was not refused for a fact', self.said('edits'))
+    def test_an_edit_that_names_nothing(self):
+        (self.root / 'crates/song/must-fail/moved.edit').write_text('# a song is moved\nold: 1\nnew: 2\n')
+        self.assertIn('moved.edit names no wrong program', self.said('layout'))
+
+    def test_two_wrong_programs_in_one_place(self):
+        self.write('moved', 'eleven', 'eleven')
+        self.assertIn('moved.edit has two wrong programs in one place', self.said('layout'))
+
+    def test_a_wrong_program_that_only_misfits(self):
+        self.refuse('lost', '/proofs/add/Proof.antt:3:1: error: `add-spec`: this λ has 2 binders, but its type has room for only 1',
+                    '/proofs/song/find/Proof.antt:3:1: error: `find-spec`: `omega`: the goal does not follow')
+        self.assertIn('song/lost in add was not refused for a fact', self.said('edits'))
+        self.assertNotIn('find', self.said('edits'))
+
+    def test_a_wrong_program_hidden_by_another(self):
+        self.refuse('lost', '/proofs/add/Proof.antt:3:1: error: `add-spec`: `search`: no proof of `x`',
+                    '/proofs/song/find/Proof.antt:3:1: error: `find-spec`: `close` was not admitted')
+        self.assertIn('song/lost in find was not refused for a fact', self.said('edits'))
 
     def test_an_edit_with_no_log(self):
         (self.root / 'target/must-fail/song/lost/.log').unlink()
-        self.assertIn('song/lost was not refused for a fact: no error', self.said('edits'))
+        self.assertIn('song/lost in add was not refused for a fact: no error', self.said('edits'))
 
 
 if __name__ == '__main__':

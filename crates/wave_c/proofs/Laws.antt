@@ -1,0 +1,233 @@
+-- Laws of the C interface, in the words of the code: answers as numbers, room, and words that are fine. Assumes nothing.
+use mathlib.Core.Path.{_≡_, refl, sym, ap, _∙_}
+use mathlib.Core.Bool.{Bool, true, false, not, cond, _&&_}
+use mathlib.Core.List.{List, [], _∷_}
+use Prim.Native.Nat.{ℕ, _≤_, _<_}
+use native.Mathlib.Omega.{arith}
+use lib.Dec.{leb}
+use lib.IntN.{ℤ}
+use lib.ListN.{length, set}
+use borrow.Author.Tests.{le-leb, lt-leb, leb-true, not-true, not-false}
+use Rattle.little.specs.Writing.{front}
+use Rattle.little.proofs.Filling.{one-store, put-front}
+use Rattle.units.specs.declared.BytePlace.{BytePlace}
+use Rattle.units.specs.declared.Frames.{Frames}
+use Rattle.units.specs.declared.Refusal.{Refusal}
+use Rattle.units.specs.declared.Refusal.the-variants.{FormatWrong, OutputTooSmall}
+use Rattle.units.specs.declared.Verdict.{Verdict}
+use Rattle.units.specs.declared.Verdict.the-variants as verdict
+use Rattle.units.specs.Refusals.{numberOf, verdictNumber, demand}
+use Rattle.lists.proofs.Laws.{and-both}
+use Rattle.riff.specs.declared.Spot.{Spot}
+use Rattle.riff.specs.Walk.{partOf}
+use Rattle.rules.specs.declared.Record.{Record}
+use Rattle.rules.specs.declared.Reading.{Reading}
+use Rattle.reader.specs.Content.{reading, soundSpot, soundIn}
+use Rattle.reader.proofs.Demands.{sound-placed}
+use Rattle.writer.specs.declared.Written.{Written}
+use Rattle.writer.specs.declared.Written.the-variants as written
+use Rattle.writer.specs.File.{andThen, fileOf, writing}
+use Rattle.writer.specs.File as writes
+use Rattle.sound.specs.declared.Decoded.{Decoded}
+use Rattle.sound.specs.declared.Decoded.the-variants as decoded
+use Rattle.sound.specs.Decoding as decodes
+use Rattle.ima.specs.declared.Coded.{Coded}
+use Rattle.ima.specs.declared.Encoded.{Encoded}
+use Rattle.ima.specs.declared.Encoded.the-variants as encoded
+use Rattle.ima.specs.Answer as encodes
+use Rattle.side.specs.declared.Added.{Added}
+use Rattle.side.specs.declared.Added.the-variants as added
+use Rattle.side.specs.Adding as adds
+use Rattle.words.specs.Words.{recordWords, fieldsFit, recordFrom}
+use Rattle.wave_c.specs.declared.Answer.{Answer}
+use Rattle.wave_c.specs.declared.CodedAnswer.{CodedAnswer}
+use Rattle.wave_c.specs.Interface.{refusedBy, done, answerBy, ofWritten, ofDecoded, ofAdded, ofEncoded, enough, readVerdict, keptBy, startOf, wordsFine, wordsWriting}
+
+-- ---- answers as numbers
+module _ (r : Refusal) {k : ℕ} (e : k ≡ numberOf r) where
+  pub refused-told : record { refusal = k; n = 0 } ≡ refusedBy r
+  refused-told = λ i. record { refusal = e i; n = 0 }
+
+  pub coded-refused : {x : Encoded} → x ≡ encoded.Refused r → record { refusal = k; left = 0; right = 0; n = 0 } ≡ ofEncoded x
+  coded-refused f = (λ i. record { refusal = e i; left = 0; right = 0; n = 0 }) ∙ ap ofEncoded (sym f)
+
+pub coded-done : {x : Encoded} {w : Coded} → x ≡ encoded.Blocks w
+    → record { refusal = 0; left = w .left .0; right = w .right .0; n = w .bytes .0 } ≡ ofEncoded x
+coded-done f = ap ofEncoded (sym f)
+
+module _ {y : Answer} where
+  pub written-done : {x : Written} {n : BytePlace} → x ≡ written.Bytes n → y ≡ done (n .0) → y ≡ ofWritten x
+  written-done f g = g ∙ ap ofWritten (sym f)
+
+  pub written-refused : {x : Written} {r : Refusal} → x ≡ written.Refused r → y ≡ refusedBy r → y ≡ ofWritten x
+  written-refused f g = g ∙ ap ofWritten (sym f)
+
+  pub decoded-done : {x : Decoded} {n : Frames} → x ≡ decoded.Frames n → y ≡ done (n .0) → y ≡ ofDecoded x
+  decoded-done f g = g ∙ ap ofDecoded (sym f)
+
+  pub decoded-refused : {x : Decoded} {r : Refusal} → x ≡ decoded.Refused r → y ≡ refusedBy r → y ≡ ofDecoded x
+  decoded-refused f g = g ∙ ap ofDecoded (sym f)
+
+  pub added-done : {x : Added} {n : BytePlace} → x ≡ added.Bytes n → y ≡ done (n .0) → y ≡ ofAdded x
+  added-done f g = g ∙ ap ofAdded (sym f)
+
+  pub added-refused : {x : Added} {r : Refusal} → x ≡ added.Refused r → y ≡ refusedBy r → y ≡ ofAdded x
+  added-refused f g = g ∙ ap ofAdded (sym f)
+
+pub ruleset answering =
+    (refused-told, coded-refused, coded-done, written-done, written-refused, decoded-done, decoded-refused, added-done, added-refused)
+
+-- ---- an answer that is the operation's, and the buffer as the operation leaves it
+module _ {x y : Decoded} (e : x ≡ y) where
+  pub decoded-told : {r : Answer} → r ≡ ofDecoded x → r ≡ ofDecoded y
+  decoded-told f = f ∙ ap ofDecoded e
+
+  pub decoded-held : (ys d : List ℤ) {z : List ℤ} → z ≡ decodes.holding x ys d → z ≡ decodes.holding y ys d
+  decoded-held ys d f = f ∙ ap (λ (v : Decoded). decodes.holding v ys d) e
+
+module _ {x y : Encoded} (e : x ≡ y) where
+  pub encoded-told : {r : CodedAnswer} → r ≡ ofEncoded x → r ≡ ofEncoded y
+  encoded-told f = f ∙ ap ofEncoded e
+
+  pub encoded-held : (ys d : List ℕ) {z : List ℕ} → z ≡ encodes.holding x ys d → z ≡ encodes.holding y ys d
+  encoded-held ys d f = f ∙ ap (λ (v : Encoded). encodes.holding v ys d) e
+
+module _ {x y : Added} (e : x ≡ y) where
+  pub added-told : {r : Answer} → r ≡ ofAdded x → r ≡ ofAdded y
+  added-told f = f ∙ ap ofAdded e
+
+  pub added-held : (ys d : List ℕ) {z : List ℕ} → z ≡ adds.holding x ys d → z ≡ adds.holding y ys d
+  added-held ys d f = f ∙ ap (λ (v : Added). adds.holding v ys d) e
+
+pub ruleset passing = (decoded-told, decoded-held, encoded-told, encoded-held, added-told, added-held)
+
+-- ---- room for n elements
+module _ (n room : ℕ) where
+  module _ (h : room < n) where
+    short : enough n room ≡ verdict.Refused OutputTooSmall
+    unfolding enough
+    short = simp (lt-leb n room h)
+
+    pub number-short : {k : ℕ} → k ≡ numberOf OutputTooSmall → k ≡ verdictNumber (enough n room)
+    number-short e = e ∙ ap verdictNumber (sym short)
+
+    pub answer-short : (m : ℕ) {y : Answer} → y ≡ refusedBy OutputTooSmall → y ≡ answerBy (enough n room) m
+    answer-short m e = e ∙ ap (λ (v : Verdict). answerBy v m) (sym short)
+
+    pub kept-short : {A : Type 0} (ys d : List A) → d ≡ keptBy (enough n room) ys d
+    kept-short {A} ys d = ap (λ (v : Verdict). keptBy v ys d) (sym short)
+
+  module _ (h : n ≤ room) where
+    roomy : enough n room ≡ verdict.Accepted
+    unfolding enough
+    roomy = simp (le-leb n room h)
+
+    pub number-roomy : 0 ≡ verdictNumber (enough n room)
+    number-roomy = ap verdictNumber (sym roomy)
+
+    pub answer-roomy : (m : ℕ) {y : Answer} → y ≡ done m → y ≡ answerBy (enough n room) m
+    answer-roomy m e = e ∙ ap (λ (v : Verdict). answerBy v m) (sym roomy)
+
+    pub kept-roomy : {A : Type 0} (ys d : List A) {z : List A} → z ≡ front ys d → z ≡ keptBy (enough n room) ys d
+    kept-roomy ys d e = e ∙ ap (λ (v : Verdict). keptBy v ys d) (sym roomy)
+
+-- where the sound starts, in the first element
+module _ (spot : Spot) (d : List ℕ) (h : 1 ≤ length d) where
+  pub sound-counted : (s : List ℕ) {w : List ℕ} {y : Answer} → w ≡ partOf s spot [] → y ≡ done (length w)
+      → y ≡ answerBy (enough 1 (length d)) (length (partOf s spot []))
+  sound-counted s e f = answer-roomy 1 (length d) h (length (partOf s spot [])) (f ∙ ap (λ (w : List ℕ). done (length w)) e)
+
+  pub start-put : {x : ℕ} → x ≡ startOf spot → set d 0 x ≡ keptBy (enough 1 (length d)) (startOf spot ∷ []) d
+  start-put e = ap (set d 0) e ∙ kept-roomy 1 (length d) h (startOf spot ∷ []) d (put-front (one-store (omega arith)))
+
+pub ruleset rooming =
+    (number-short, answer-short, kept-short, number-roomy, answer-roomy, kept-roomy, sound-counted, start-put)
+
+-- ---- the reader's refusals first
+module _ (n : ℕ) (s : List ℕ) (room : ℕ) {x : Reading} (e : x ≡ reading s) where
+  module _ {r : Refusal} (f : x .verdict ≡ verdict.Refused r) where
+    turned : readVerdict n s room ≡ verdict.Refused r
+    unfolding readVerdict
+    turned = ap (λ (v : Verdict). andThen v (enough n room)) (ap (λ (y : Reading). y .verdict) (sym e) ∙ f)
+
+    pub number-refused : {k : ℕ} → k ≡ numberOf r → k ≡ verdictNumber (readVerdict n s room)
+    number-refused g = g ∙ ap verdictNumber (sym turned)
+
+    pub answer-refused : (m : ℕ) {y : Answer} → y ≡ refusedBy r → y ≡ answerBy (readVerdict n s room) m
+    answer-refused m g = g ∙ ap (λ (v : Verdict). answerBy v m) (sym turned)
+
+    pub kept-refused : {A : Type 0} (ys d : List A) → d ≡ keptBy (readVerdict n s room) ys d
+    kept-refused ys d = ap (λ (v : Verdict). keptBy v ys d) (sym turned)
+
+  module _ (f : x .verdict ≡ verdict.Accepted) where
+    taken : enough n room ≡ readVerdict n s room
+    unfolding readVerdict
+    taken = ap (λ (v : Verdict). andThen v (enough n room)) (sym f ∙ ap (λ (y : Reading). y .verdict) e)
+
+    pub number-taken : {k : ℕ} → k ≡ verdictNumber (enough n room) → k ≡ verdictNumber (readVerdict n s room)
+    number-taken g = g ∙ ap verdictNumber taken
+
+    pub record-kept : (d : List ℕ) {z : List ℕ} → z ≡ keptBy (enough n room) (recordWords (x .made)) d
+        → z ≡ keptBy (readVerdict n s room) (recordWords (reading s .made)) d
+    record-kept d g = g ∙ (λ i. keptBy (taken i) (recordWords (e i .made)) d)
+
+    module _ {spot : Spot} (h : spot ≡ soundSpot s) where
+      pub sound-told : {y : Answer} → y ≡ answerBy (enough n room) (length (partOf s spot [])) → y ≡ answerBy (readVerdict n s room) (length (soundIn s))
+      sound-told g =
+          let p : length (partOf s spot []) ≡ length (soundIn s) = ap length (sound-placed s h refl) in
+          g ∙ (λ i. answerBy (taken i) (p i))
+
+      pub start-kept : (d : List ℕ) {z : List ℕ} → z ≡ keptBy (enough n room) (startOf spot ∷ []) d
+          → z ≡ keptBy (readVerdict n s room) (startOf (soundSpot s) ∷ []) d
+      start-kept d g = g ∙ (λ i. keptBy (taken i) (startOf (h i) ∷ []) d)
+
+pub ruleset reading-first = (number-refused, answer-refused, kept-refused, number-taken, record-kept, sound-told, start-kept)
+
+-- ---- words for a record
+module _ (w : List ℕ) where
+  pub words-short : length w < 393 → false ≡ wordsFine w
+  unfolding wordsFine
+  words-short h = simp (lt-leb 393 (length w) h)
+
+  pub words-asked : {b : Bool} → 393 ≤ length w → b ≡ fieldsFit w → b ≡ wordsFine w
+  unfolding wordsFine
+  words-asked h e = simp (le-leb 393 (length w) h, e)
+
+  module _ {b : Bool} (e : b ≡ wordsFine w) (f : not b ≡ false) where
+    both : (leb 393 (length w) ≡ true) × (fieldsFit w ≡ true)
+    unfolding wordsFine
+    both = and-both (leb 393 (length w)) (fieldsFit w) (sym e ∙ not-false b f)
+
+    pub words-enough : 393 ≤ length w
+    words-enough = leb-true 393 (length w) (both .0)
+
+    pub words-fit : fieldsFit w ≡ true
+    words-fit = both .1
+
+  module _ (s : List ℕ) (room : ℕ) {b : Bool} (e : b ≡ wordsFine w) where
+    module _ (f : not b ≡ true) where
+      unfit : wordsWriting w s room ≡ written.Refused FormatWrong
+      unfolding wordsWriting
+      unfit = ap (λ (c : Bool). cond c (writing (recordFrom w) s room) (written.Refused FormatWrong)) (sym e ∙ not-true b f)
+
+      pub words-refused : {y : Answer} → y ≡ refusedBy FormatWrong → y ≡ ofWritten (wordsWriting w s room)
+      words-refused g = g ∙ ap ofWritten (sym unfit)
+
+      pub words-left : (ys d : List ℕ) → d ≡ writes.holding (wordsWriting w s room) ys d
+      words-left ys d = ap (λ (v : Written). writes.holding v ys d) (sym unfit)
+
+    module _ (f : not b ≡ false) {m : Record} (g : m ≡ recordFrom w) {x : Written} (h : x ≡ writing m s room) where
+      fit : x ≡ wordsWriting w s room
+      unfolding wordsWriting
+      fit =
+          h
+          ∙ ap (λ (r : Record). writing r s room) g
+          ∙ ap (λ (c : Bool). cond c (writing (recordFrom w) s room) (written.Refused FormatWrong)) (sym (not-false b f) ∙ e)
+
+      pub words-told : {y : Answer} → y ≡ ofWritten x → y ≡ ofWritten (wordsWriting w s room)
+      words-told k = k ∙ ap ofWritten fit
+
+      pub words-held : (d : List ℕ) {z : List ℕ} → z ≡ writes.holding x (fileOf m s) d → z ≡ writes.holding (wordsWriting w s room) (fileOf (recordFrom w) s) d
+      words-held d k = k ∙ (λ i. writes.holding (fit i) (fileOf (g i) s) d)
+
+pub ruleset wording = (words-short, words-asked, words-enough, words-fit, words-refused, words-left, words-told, words-held)

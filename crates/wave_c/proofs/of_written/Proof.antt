@@ -1,0 +1,16 @@
+-- By the case of the answer.
+use Rattle.wave_c.proofs.Laws.{answering}
+use borrow.Author.Needs.{needs}
+use Rattle.wave_c.proofs.of_written.Statement.{statement}
+use Rattle.wave_c.proofs.of_written.Tie as tie
+
+pub of-written-spec : {M : Type 1} → statement M
+of-written-spec =
+    tie.close
+    (tie.spec
+    (λ c. search (needs, answering))
+    (λ c κs. search (needs, answering))
+    (λ c. search (needs, answering))
+    (λ c κs. search (needs, answering))
+    (λ c. search (needs, answering))
+    (λ c. search (needs, answering)))

@@ -1,0 +1,274 @@
+// The C interface of the library: its operations over numbers and lent buffers, as include/tronalhet.h
+// declares them. A refusal is its number, and 0 is success.
+use formats::Format;
+use ima::Coded;
+use riff::Spot;
+use rules::Record;
+use units::Donation;
+use units::Frames;
+use units::Refusal;
+use units::Verdict;
+use wave::Added;
+use wave::Decoded;
+use wave::Encoded;
+use wave::Written;
+ghost use mathlib.Core.Path.{_≡_};
+ghost use mathlib.Core.List.{[], _∷_};
+ghost use lib.Dec.{leb};
+ghost use lib.ListN.{length};
+ghost use Rattle.units.specs.Refusals.{numberOf, verdictNumber};
+ghost use Rattle.reader.specs.Content.{reading, soundSpot, soundIn};
+ghost use Rattle.riff.specs.Walk.{partOf};
+ghost use Rattle.writer.specs.File.{fileOf};
+ghost use Rattle.writer.specs.File as writes;
+ghost use Rattle.ima.specs.Encoding.{encodedBytes};
+ghost use Rattle.ima.specs.Answer.{encoding};
+ghost use Rattle.ima.specs.Answer as encodes;
+ghost use Rattle.sound.specs.Decoding.{decoding, blockDecoding, fileSound, fileBlock};
+ghost use Rattle.sound.specs.Decoding as decodes;
+ghost use Rattle.side.specs.Adding.{adding, newFile};
+ghost use Rattle.side.specs.Adding as adds;
+ghost use Rattle.words.specs.Words.{recordWords, recordFrom};
+ghost use Rattle.wave_c.specs.Interface.{refusedBy, done, ofWritten, ofDecoded, ofEncoded, ofAdded, answerBy, keptBy, enough, readVerdict, startOf, wordsFine, wordsWriting};
+
+// How many bytes or frames there are, or the number of the refusal.
+#[repr(C)]
+pub struct Answer {
+    pub refusal: u32,
+    pub n: usize,
+}
+
+// The chased samples of each channel and the bytes of the blocks, or the number of the refusal.
+#[repr(C)]
+pub struct CodedAnswer {
+    pub refusal: u32,
+    pub left: u32,
+    pub right: u32,
+    pub n: usize,
+}
+
+// ---- answers as numbers
+
+// A refusal, by its number.
+fn number_of(refusal: Refusal) -> u32
+    ensures { λ r. ⌜ r ≡ numberOf refusal ⌝ }
+{
+    units::number(refusal) as u32
+}
+
+// The answer that is a refusal.
+fn turned_away(refusal: Refusal) -> Answer
+    ensures { λ r. ⌜ r ≡ refusedBy refusal ⌝ }
+{
+    Answer {
+        refusal: number_of(refusal),
+        n: 0,
+    }
+}
+
+// The answer that is a success.
+fn told(n: usize) -> Answer
+    ensures { λ r. ⌜ r ≡ done n ⌝ }
+{
+    Answer { refusal: 0, n: n }
+}
+
+// What writing answers.
+fn of_written(answer: Written) -> Answer
+    ensures { λ r. ⌜ r ≡ ofWritten answer ⌝ }
+{
+    match answer {
+        Written::Bytes(size) => told(size.0),
+        Written::Refused(refusal) => turned_away(refusal),
+    }
+}
+
+// What decoding answers.
+fn of_decoded(answer: Decoded) -> Answer
+    ensures { λ r. ⌜ r ≡ ofDecoded answer ⌝ }
+{
+    match answer {
+        Decoded::Frames(frames) => told(frames.0 as usize),
+        Decoded::Refused(refusal) => turned_away(refusal),
+    }
+}
+
+// What adding answers.
+fn of_added(answer: Added) -> Answer
+    ensures { λ r. ⌜ r ≡ ofAdded answer ⌝ }
+{
+    match answer {
+        Added::Bytes(size) => told(size.0),
+        Added::Refused(refusal) => turned_away(refusal),
+    }
+}
+
+// What encoding answers.
+fn of_encoded(answer: Encoded) -> CodedAnswer
+    ensures { λ r. ⌜ r ≡ ofEncoded answer ⌝ }
+{
+    match answer {
+        Encoded::Blocks(coded) => CodedAnswer {
+            refusal: 0,
+            left: coded.left.0,
+            right: coded.right.0,
+            n: coded.bytes.0,
+        },
+        Encoded::Refused(refusal) => CodedAnswer {
+            refusal: number_of(refusal),
+            left: 0,
+            right: 0,
+            n: 0,
+        },
+    }
+}
+
+// ---- reading
+
+// Puts the record of a file that was taken, where there is room for its words.
+fn put_record(made: Record, out: &mut [u32]) -> u32
+    ensures { λ r. ⌜ (r ≡ verdictNumber (enough 393 (length (now (out .entry)))))
+        × (now (out .exit) ≡ keptBy (enough 393 (length (now (out .entry)))) (recordWords made) (now (out .entry))) ⌝ }
+{
+    if out.len() < words::WORDS {
+        return number_of(Refusal::OutputTooSmall);
+    }
+    words::put_record(out, made);
+    0
+}
+
+// The record of a file, as words from the start of a lent buffer.
+#[no_mangle]
+pub extern "C" fn tronalhet_read(file: &[u8], out: &mut [u32]) -> u32
+    ensures { λ r. ⌜ (r ≡ verdictNumber (readVerdict 393 (now (file .entry)) (length (now (out .entry)))))
+        × (now (out .exit) ≡ keptBy (readVerdict 393 (now (file .entry)) (length (now (out .entry)))) (recordWords (reading (now (file .entry)) .made)) (now (out .entry))) ⌝ }
+{
+    let reading = wave::read(file);
+    let verdict = reading.verdict;
+    let made = reading.made;
+    match verdict {
+        Verdict::Refused(refusal) => number_of(refusal),
+        Verdict::Accepted => put_record(made, out),
+    }
+}
+
+// Where a chunk's data start; of a missing chunk, nowhere.
+fn start_of(spot: Spot) -> usize
+    ensures { λ r. ⌜ r ≡ startOf spot ⌝ }
+{
+    match spot {
+        Spot::At(place) => place.start.0,
+        Spot::Missing => 0,
+    }
+}
+
+// Puts where the sound of a file that was taken starts, where there is room for it.
+fn put_start(file: &[u8], spot: Spot, out: &mut [usize]) -> Answer
+    ensures { λ r. ⌜ (r ≡ answerBy (enough 1 (length (now (out .entry)))) (length (partOf (now (file .entry)) spot [])))
+        × (now (out .exit) ≡ keptBy (enough 1 (length (now (out .entry)))) (startOf spot ∷ []) (now (out .entry))) ⌝ }
+{
+    if out.len() < 1 {
+        return turned_away(Refusal::OutputTooSmall);
+    }
+    let sound = riff::part(file, spot, b"");
+    out[0] = start_of(spot);
+    told(sound.len())
+}
+
+// Where the sound of a file starts, put to a lent buffer, and how many bytes it has.
+#[no_mangle]
+pub extern "C" fn tronalhet_sound(file: &[u8], out: &mut [usize]) -> Answer
+    ensures { λ r. ⌜ (r ≡ answerBy (readVerdict 1 (now (file .entry)) (length (now (out .entry)))) (length (soundIn (now (file .entry)))))
+        × (now (out .exit) ≡ keptBy (readVerdict 1 (now (file .entry)) (length (now (out .entry)))) (startOf (soundSpot (now (file .entry))) ∷ []) (now (out .entry))) ⌝ }
+{
+    let opened = reader::open(file);
+    let reading = opened.answer;
+    let spot = opened.sound;
+    let verdict = reading.verdict;
+    match verdict {
+        Verdict::Refused(refusal) => turned_away(refusal),
+        Verdict::Accepted => put_start(file, spot, out),
+    }
+}
+
+// ---- writing
+
+// Whether there are words enough for a record, and each fits its field.
+fn words_fine(given: &[u32]) -> bool
+    ensures { λ r. ⌜ r ≡ wordsFine (now (given .entry)) ⌝ }
+{
+    if given.len() < words::WORDS {
+        return false;
+    }
+    words::fields_fit(given)
+}
+
+// Writes a file of a record, which comes as words, and its sound.
+#[no_mangle]
+pub extern "C" fn tronalhet_write(given: &[u32], sound: &[u8], out: &mut [u8]) -> Answer
+    ensures { λ r. ⌜ (r ≡ ofWritten (wordsWriting (now (given .entry)) (now (sound .entry)) (length (now (out .entry)))))
+        × (now (out .exit) ≡ writes.holding (wordsWriting (now (given .entry)) (now (sound .entry)) (length (now (out .entry)))) (fileOf (recordFrom (now (given .entry))) (now (sound .entry))) (now (out .entry))) ⌝ }
+{
+    let fine = words_fine(given);
+    if !fine {
+        return turned_away(Refusal::FormatWrong);
+    }
+    let made = words::record_from(given);
+    let answer = wave::write(made, sound, out);
+    of_written(answer)
+}
+
+// ---- decoding and encoding
+
+// Decodes a whole file.
+#[no_mangle]
+pub extern "C" fn tronalhet_decode(file: &[u8], out: &mut [i16]) -> Answer
+    ensures { λ r. ⌜ (r ≡ ofDecoded (decoding (now (file .entry)) (length (now (out .entry)))))
+        × (now (out .exit) ≡ decodes.holding (decoding (now (file .entry)) (length (now (out .entry)))) (fileSound (now (file .entry))) (now (out .entry))) ⌝ }
+{
+    let answer = wave::decode(file, out);
+    of_decoded(answer)
+}
+
+// Decodes a block of an ADPCM file, with its fill.
+#[no_mangle]
+pub extern "C" fn tronalhet_decode_block(file: &[u8], block: u32, out: &mut [i16]) -> Answer
+    ensures { λ r. ⌜ (r ≡ ofDecoded (blockDecoding (now (file .entry)) block (length (now (out .entry)))))
+        × (now (out .exit) ≡ decodes.holding (blockDecoding (now (file .entry)) block (length (now (out .entry)))) (fileBlock (now (file .entry)) block) (now (out .entry))) ⌝ }
+{
+    let answer = wave::decode_block(file, block, out);
+    of_decoded(answer)
+}
+
+// Encodes a sound to IMA blocks.
+#[no_mangle]
+pub extern "C" fn tronalhet_encode(
+    sound: &[i16],
+    channels: u16,
+    align: u16,
+    out: &mut [u8],
+) -> CodedAnswer
+    ensures { λ r. ⌜ (r ≡ ofEncoded (encoding (now (sound .entry)) channels align (length (now (out .entry)))))
+        × (now (out .exit) ≡ encodes.holding (encoding (now (sound .entry)) channels align (length (now (out .entry)))) (encodedBytes channels align (now (sound .entry))) (now (out .entry))) ⌝ }
+{
+    let answer = wave::encode(sound, channels, align, out);
+    of_encoded(answer)
+}
+
+// ---- sides
+
+// Adds a song to a side.
+#[no_mangle]
+pub extern "C" fn tronalhet_add(
+    side: &[u8],
+    song: &[u8],
+    number: u32,
+    limit: u32,
+    out: &mut [u8],
+) -> Answer
+    ensures { λ r. ⌜ (r ≡ ofAdded (adding (now (side .entry)) (now (song .entry)) (record { 0 = number }) (record { 0 = limit }) (length (now (out .entry)))))
+        × (now (out .exit) ≡ adds.holding (adding (now (side .entry)) (now (song .entry)) (record { 0 = number }) (record { 0 = limit }) (length (now (out .entry)))) (newFile (now (side .entry)) (now (song .entry)) (record { 0 = number })) (now (out .entry))) ⌝ }
+{
+    let answer = wave::add(side, song, Donation(number), Frames(limit), out);
+    of_added(answer)
+}

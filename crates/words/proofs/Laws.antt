@@ -1,0 +1,142 @@
+-- Laws of a record's words, in the words of the code. Assumes nothing.
+use mathlib.Core.Path.{_≡_, refl, sym, ap, _∙_, subst}
+use mathlib.Core.Bool.{Bool, true}
+use mathlib.Core.List.{List, [], _∷_, _++_}
+use Prim.Native.Nat.{ℕ, _+_, _*_, _≤_, _<_}
+use native.Mathlib.Omega.{arith}
+use lib.ListN.{length, getD, length-append}
+use lib.Dec.{ltb}
+use lib.Seq.{take-all}
+use Rattle.formats.specs.declared.Format.{Format}
+use borrow.Author.Tests.{ltb-true}
+use Rattle.little.specs.Writing.{Put, front}
+use Rattle.little.proofs.Filling.{put-long, put-next, put-front}
+use Rattle.lists.specs.Every.{allBelow}
+use Rattle.lists.proofs.Laws.{every-at}
+use Rattle.tables.specs.declared.Cue.{Cue}
+use Rattle.tables.specs.declared.Cues.{Cues}
+use Rattle.tables.specs.declared.Play.{Play}
+use Rattle.tables.specs.declared.Playlist.{Playlist}
+use Rattle.tables.specs.Bytes.{entryBytes}
+use Rattle.tables.specs.Cues.{noCues}
+use Rattle.tables.specs.Plays.{noPlays}
+use Rattle.tables.proofs.Entries.{Listed, list-next, list-ends}
+use Rattle.tables.proofs.Putting.{Entered, entries-begin, entry-room, entry-next, entries-end, array-long}
+use Rattle.tables.proofs.Lengths.{entries-long}
+use Rattle.rules.specs.declared.Record.{Record}
+use Rattle.words.specs.Words.{headWords, cueWords, playWords, recordWords, word, fieldsFit, cueFrom, cuesFrom, playFrom, playsFrom, formatFrom, recordFrom}
+
+-- ---- the fields of 16 bits
+abbrev fields : List ℕ → List ℕ
+fields w = word w 0 ∷ word w 1 ∷ word w 3 ∷ word w 4 ∷ word w 5 ∷ []
+
+pub fields-asked : (w : List ℕ) {b : Bool} → b ≡ allBelow 65536 (fields w) → b ≡ fieldsFit w
+unfolding fieldsFit
+fields-asked w e = e
+
+module _ (w : List ℕ) (f : fieldsFit w ≡ true) where
+  field : (k : ℕ) → k < 5 → getD (fields w) k 0 < 65536
+  unfolding fieldsFit allBelow
+  field k h = ltb-true (getD (fields w) k 0) 65536 (every-at (λ i. ltb (getD (fields w) i 0) 65536) 0 5 k f (omega arith) (omega arith))
+
+  pub tag-fits : word w 0 < 65536
+  tag-fits = field 0 (omega arith)
+
+  pub channels-fit : word w 1 < 65536
+  channels-fit = field 1 (omega arith)
+
+  pub bits-fit : word w 3 < 65536
+  bits-fit = field 2 (omega arith)
+
+  pub align-fits : word w 4 < 65536
+  align-fits = field 3 (omega arith)
+
+  pub samples-fit : word w 5 < 65536
+  samples-fit = field 4 (omega arith)
+
+pub ruleset fitting = (fields-asked, tag-fits, channels-fit, bits-fit, align-fits, samples-fit)
+
+-- ---- the tables taken from words
+module _ (w : List ℕ) where
+  pub cues-begin : {c : Cues} → c ≡ noCues → Listed (cuesFrom w) (λ k. cueFrom w (9 + 3 * k)) 64 0 (c .list)
+  unfolding cuesFrom
+  cues-begin e = record { upto = omega arith; more = λ k. refl; same = ap (λ (c : Cues). c .list) e }
+
+  pub plays-begin : {p : Playlist} → p ≡ noPlays → Listed (playsFrom w) (λ k. playFrom w (201 + 3 * k)) 64 0 (p .list)
+  unfolding playsFrom
+  plays-begin e = record { upto = omega arith; more = λ k. refl; same = ap (λ (p : Playlist). p .list) e }
+
+  pub cues-end : {i : ℕ} {entry : ℕ → Cue} {list : List Cue} → Listed (cuesFrom w) entry 64 i list → 64 ≤ i → list ≡ cuesFrom w 64
+  cues-end l h = list-ends l h
+
+  pub plays-end : {i : ℕ} {entry : ℕ → Play} {list : List Play} → Listed (playsFrom w) entry 64 i list → 64 ≤ i → list ≡ playsFrom w 64
+  plays-end l h = list-ends l h
+
+pub ruleset listing = (cues-begin, plays-begin, list-next, cues-end, plays-end)
+
+-- ---- the tables put into words, three for each entry
+pub cue-long : (c : Cue) → length (cueWords c) ≡ 3
+cue-long c = refl
+
+pub play-long : (p : Play) → length (playWords p) ≡ 3
+play-long p = refl
+
+pub all-end : {A : Type 0} {words : A → List ℕ} {list : List A} {i at : ℕ} {d d₀ : List ℕ} → Entered words 3 list 64 i at d d₀ → 64 ≤ i
+    → length list ≡ 64 → Put d₀ at (entryBytes words list) d
+all-end {A} {words} {list} {i} {at} {d} {d₀} w h l =
+    subst (λ (es : List A). Put d₀ at (entryBytes words es) d) (take-all 64 list (omega arith)) (entries-end w h)
+
+pub ruleset entering = (cue-long, play-long, array-long, entries-begin, entry-room, entry-next, all-end)
+
+-- ---- the whole record
+module _ (cues : List Cue) (plays : List Play) (h : length cues ≡ 64) (l : length plays ≡ 64) where
+  cues-long : length (entryBytes cueWords cues) ≡ 192
+  cues-long = omega (arith, entries-long cueWords 3 cue-long cues)
+
+  plays-long : length (entryBytes playWords plays) ≡ 192
+  plays-long = omega (arith, entries-long playWords 3 play-long plays)
+
+  pub tables-long : length (entryBytes cueWords cues ++ entryBytes playWords plays) ≡ 384
+  tables-long = omega (arith, cues-long, plays-long, length-append (entryBytes cueWords cues) (entryBytes playWords plays))
+
+  module _ {d e : List ℕ} (r : 393 ≤ length d) (p : Put d 9 (entryBytes cueWords cues) e) where
+    pub plays-room : 201 + 3 * 64 ≤ length e
+    plays-room = omega (arith, put-long p (omega (arith, cues-long)))
+
+    pub tables-put : {f : List ℕ} → Put e 201 (entryBytes playWords plays) f → Put d 9 (entryBytes cueWords cues ++ entryBytes playWords plays) f
+    tables-put q = put-next p q (omega (arith, cues-long)) (omega (arith, cues-long, plays-long))
+
+pub ruleset tables-putting = (array-long, plays-room, tables-put)
+
+module _ (m : Record) {d e head : List ℕ} (r : 393 ≤ length d) (t : head ≡ headWords m) (p : Put d 0 head e) where
+  headed : Put d 0 (headWords m) e
+  headed = subst (λ (ys : List ℕ). Put d 0 ys e) t p
+
+  pub tables-room : 393 ≤ length e
+  tables-room = omega (arith, put-long headed (omega arith))
+
+  pub record-put : {f : List ℕ} → length (m .cues .list) ≡ 64 → length (m .playlist .list) ≡ 64
+      → Put e 9 (entryBytes cueWords (m .cues .list) ++ entryBytes playWords (m .playlist .list)) f → f ≡ front (recordWords m) d
+  unfolding recordWords
+  record-put h l q =
+      put-front (put-next headed q refl (omega (arith, tables-long (m .cues .list) (m .playlist .list) h l)))
+
+pub ruleset record-putting = (array-long, tables-room, record-put)
+
+-- ---- the record taken from words
+pub format-said : (w : List ℕ) {a b c d e : ℕ} → a ≡ word w 0 → b ≡ word w 1 → c ≡ word w 3 → d ≡ word w 4 → e ≡ word w 5
+    → record { tag = a; channels = b; rate = word w 2; bits = c; align = d; samples = e } ≡ formatFrom w
+unfolding formatFrom
+format-said w f g h i j = simp (f, g, h, i, j)
+
+pub record-said : (w : List ℕ) {f : Format} {c : List Cue} {p : List Play} → f ≡ formatFrom w → c ≡ cuesFrom w 64 → p ≡ playsFrom w 64
+    → record {
+      format = f;
+      frames = record { 0 = word w 6 };
+      cues = record { count = word w 7; list = c };
+      playlist = record { count = word w 8; list = p };
+    } ≡ recordFrom w
+unfolding recordFrom
+record-said w e g h = simp (e, g, h)
+
+pub ruleset saying = (format-said, record-said)

@@ -1,0 +1,727 @@
+/* The C test host: calls each function of tronalhet.h and checks what it gives against values worked out
+ * by hand from document 01. */
+#include "tronalhet.h"
+
+#include <stdbool.h>
+#include <stdio.h>
+#include <stdlib.h>
+#include <string.h>
+
+enum { WORDS = TRONALHET_RECORD_WORDS, ROOM = 4000, FILL = 0xA5 };
+
+static unsigned checks;
+static unsigned failed;
+
+static void check(bool met, int line, const char *what)
+{
+    checks++;
+    if (met)
+        return;
+    failed++;
+    printf("calls.c:%d: failed: %s\n", line, what);
+}
+
+#define CHECK(condition) check(condition, __LINE__, #condition)
+
+/* Mono, 16 bits, rate 8000, four frames; cue 7 with position 9 at place 1, played twice to the end. */
+static const uint8_t cue_file[112] = {
+    'R', 'I', 'F', 'F', 104, 0, 0, 0, 'W', 'A', 'V', 'E',
+    'f', 'm', 't', ' ', 16, 0, 0, 0, 1, 0, 1, 0, 0x40, 0x1F, 0, 0, 0x80, 0x3E, 0, 0, 2, 0, 16, 0,
+    'c', 'u', 'e', ' ', 28, 0, 0, 0, 1, 0, 0, 0,
+    7, 0, 0, 0, 9, 0, 0, 0, 'd', 'a', 't', 'a', 0, 0, 0, 0, 0, 0, 0, 0, 1, 0, 0, 0,
+    'p', 'l', 's', 't', 16, 0, 0, 0, 1, 0, 0, 0, 7, 0, 0, 0, 3, 0, 0, 0, 2, 0, 0, 0,
+    'd', 'a', 't', 'a', 8, 0, 0, 0, 1, 0, 0xFF, 0xFF, 0xFF, 0x7F, 0, 0x80};
+
+/* The printed IMA block, mono, align 12, 17 frames. The average is 8000 x 12 / 17 = 5647. */
+static const uint8_t ima_file[72] = {
+    'R', 'I', 'F', 'F', 64, 0, 0, 0, 'W', 'A', 'V', 'E',
+    'f', 'm', 't', ' ', 20, 0, 0, 0, 17, 0, 1, 0, 0x40, 0x1F, 0, 0, 0x0F, 0x16, 0, 0, 12, 0, 4, 0, 2, 0, 17, 0,
+    'f', 'a', 'c', 't', 4, 0, 0, 0, 17, 0, 0, 0,
+    'd', 'a', 't', 'a', 12, 0, 0, 0, 0x00, 0x80, 0x00, 0x00, 0x77, 0x77, 0x77, 0x77, 0x77, 0x17, 0x00, 0x00};
+
+/* Its samples: after the start each code 7 adds s + s/2 + s/4 + s/8 and moves the index by 8; the
+ * twelfth code is 1 and would pass 32767, and the zeros behind it stay there. */
+static const int16_t ima_samples[17] = {-32768, -32757, -32727, -32664, -32528, -32235, -31604, -30247, -27337,
+                                        -21101, -7729,  20937,  32767,  32767,  32767,  32767,  32767};
+
+/* The printed Microsoft block, mono, align 8, four frames. The average is 8000 x 8 / 4 = 16000. */
+static const uint8_t microsoft_file[98] = {
+    'R', 'I', 'F', 'F', 90, 0, 0, 0, 'W', 'A', 'V', 'E',
+    'f', 'm', 't', ' ', 50, 0, 0, 0, 2, 0, 1, 0, 0x40, 0x1F, 0, 0, 0x80, 0x3E, 0, 0, 8, 0, 4, 0,
+    32, 0, 4, 0, 7, 0,
+    0x00, 0x01, 0, 0, 0x00, 0x02, 0x00, 0xFF, 0, 0, 0, 0, 0xC0, 0, 0x40, 0, 0xF0, 0, 0, 0,
+    0xCC, 0x01, 0x30, 0xFF, 0x88, 0x01, 0x18, 0xFF,
+    'f', 'a', 'c', 't', 4, 0, 0, 0, 4, 0, 0, 0,
+    'd', 'a', 't', 'a', 8, 0, 0, 0, 0x00, 0x10, 0x00, 0x64, 0x00, 0x32, 0x00, 0x1F};
+
+/* A stereo frame of 8 bits, and an unknown odd chunk with a pad of 9 before it. */
+static const uint8_t stereo_file[56] = {
+    'R', 'I', 'F', 'F', 48, 0, 0, 0, 'W', 'A', 'V', 'E',
+    'f', 'm', 't', ' ', 16, 0, 0, 0, 1, 0, 2, 0, 0x40, 0x1F, 0, 0, 0x80, 0x3E, 0, 0, 2, 0, 8, 0,
+    'n', 'o', 't', 'e', 1, 0, 0, 0, 5, 9,
+    'd', 'a', 't', 'a', 2, 0, 0, 0, 0, 255};
+
+/* An empty side: mono, 16 bits, rate 8000, no sound. */
+static const uint8_t empty_side[44] = {
+    'R', 'I', 'F', 'F', 36, 0, 0, 0, 'W', 'A', 'V', 'E',
+    'f', 'm', 't', ' ', 16, 0, 0, 0, 1, 0, 1, 0, 0x40, 0x1F, 0, 0, 0x80, 0x3E, 0, 0, 2, 0, 16, 0,
+    'd', 'a', 't', 'a', 0, 0, 0, 0};
+
+/* A song of two frames for it. */
+static const uint8_t song_file[48] = {
+    'R', 'I', 'F', 'F', 40, 0, 0, 0, 'W', 'A', 'V', 'E',
+    'f', 'm', 't', ' ', 16, 0, 0, 0, 1, 0, 1, 0, 0x40, 0x1F, 0, 0, 0x80, 0x3E, 0, 0, 2, 0, 16, 0,
+    'd', 'a', 't', 'a', 4, 0, 0, 0, 1, 0, 2, 0};
+
+/* The side with that song as number 5. */
+static const uint8_t side_of_one[108] = {
+    'R', 'I', 'F', 'F', 100, 0, 0, 0, 'W', 'A', 'V', 'E',
+    'f', 'm', 't', ' ', 16, 0, 0, 0, 1, 0, 1, 0, 0x40, 0x1F, 0, 0, 0x80, 0x3E, 0, 0, 2, 0, 16, 0,
+    'c', 'u', 'e', ' ', 28, 0, 0, 0, 1, 0, 0, 0,
+    5, 0, 0, 0, 0, 0, 0, 0, 'd', 'a', 't', 'a', 0, 0, 0, 0, 0, 0, 0, 0, 0, 0, 0, 0,
+    'p', 'l', 's', 't', 16, 0, 0, 0, 1, 0, 0, 0, 5, 0, 0, 0, 2, 0, 0, 0, 1, 0, 0, 0,
+    'd', 'a', 't', 'a', 4, 0, 0, 0, 1, 0, 2, 0};
+
+/* A change that makes a file refused: bytes put at a place; its line here names it where it fails. */
+struct fault {
+    int line;
+    uint32_t refusal;
+    size_t place;
+    size_t count;
+    char bytes[13];
+};
+
+/* Faults of cue_file, whose length stays 112. */
+static const struct fault faults[] = {
+    {__LINE__, 2, 0, 4, "RIFX"},
+    {__LINE__, 2, 8, 4, "WAVe"},
+    {__LINE__, 3, 4, 1, "\x69"},
+    {__LINE__, 3, 4, 1, "\x6A"},
+    {__LINE__, 4, 100, 1, "\x0A"},
+    {__LINE__, 4, 100, 4, "\xFF\xFF\xFF\xFF"},
+    {__LINE__, 5, 72, 4, "cue "},
+    {__LINE__, 6, 12, 4, "xmt "},
+    {__LINE__, 7, 72, 12, "LIST\x10\0\0\0wavl"},
+    {__LINE__, 8, 96, 4, "dat_"},
+    {__LINE__, 9, 20, 1, "\x03"},
+    {__LINE__, 9, 22, 1, "\x03"},
+    {__LINE__, 9, 24, 2, "\0\0"},
+    {__LINE__, 9, 28, 1, "\x81"},
+    {__LINE__, 9, 32, 1, "\x04"},
+    {__LINE__, 9, 34, 1, "\x14"},
+    {__LINE__, 10, 100, 1, "\x07"},
+    {__LINE__, 12, 44, 1, "\x02"},
+    {__LINE__, 12, 56, 1, "D"},
+    {__LINE__, 12, 60, 1, "\x01"},
+    {__LINE__, 12, 64, 1, "\x01"},
+    {__LINE__, 12, 68, 1, "\x04"},
+    {__LINE__, 13, 80, 1, "\0"},
+    {__LINE__, 13, 84, 1, "\x08"},
+    {__LINE__, 13, 88, 1, "\x04"},
+    {__LINE__, 13, 88, 4, "\xFF\xFF\xFF\xFF"},
+    {__LINE__, 13, 88, 1, "\0"},
+    {__LINE__, 13, 92, 1, "\0"},
+};
+
+/* Faults of ima_file, whose one block of 17 samples has a fact count of 1 to 17. */
+static const struct fault ima_faults[] = {
+    {__LINE__, 4, 44, 4, "\xFF\xFF\xFF\x7F"},
+    {__LINE__, 9, 32, 1, "\x0D"},
+    {__LINE__, 9, 34, 1, "\x03"},
+    {__LINE__, 9, 36, 1, "\x01"},
+    {__LINE__, 9, 36, 1, "\x03"},
+    {__LINE__, 9, 38, 1, "\x10"},
+    {__LINE__, 11, 40, 4, "fakt"},
+    {__LINE__, 11, 44, 1, "\x03"},
+    {__LINE__, 11, 48, 1, "\0"},
+    {__LINE__, 11, 48, 1, "\x12"},
+    {__LINE__, 11, 48, 4, "\xFF\xFF\xFF\xFF"},
+};
+
+static void put_fault(uint8_t *file, const struct fault *fault)
+{
+    memcpy(file + fault->place, fault->bytes, fault->count);
+}
+
+/* The one buffer that the refused calls get. */
+static uint8_t out[ROOM];
+static int16_t samples_out[ROOM];
+static uint32_t record_out[WORDS + 1];
+
+static void fill_buffers(void)
+{
+    memset(out, FILL, sizeof out);
+    memset(samples_out, FILL, sizeof samples_out);
+    memset(record_out, FILL, sizeof record_out);
+}
+
+static bool is_filled(const void *from, size_t bytes)
+{
+    const uint8_t *at = from;
+    for (size_t i = 0; i < bytes; i++) {
+        if (at[i] != FILL)
+            return false;
+    }
+    return true;
+}
+
+static bool buffers_are_untouched(void)
+{
+    return is_filled(out, sizeof out) && is_filled(samples_out, sizeof samples_out) &&
+           is_filled(record_out, sizeof record_out);
+}
+
+static bool refuses(tronalhet_answer answer, uint32_t refusal)
+{
+    return answer.refusal == refusal && answer.n == 0;
+}
+
+static bool refuses_coded(tronalhet_coded coded, uint32_t refusal)
+{
+    return coded.refusal == refusal && coded.n == 0 && coded.left == 0 && coded.right == 0;
+}
+
+static bool gives(tronalhet_answer answer, size_t n)
+{
+    return answer.refusal == 0 && answer.n == n;
+}
+
+/* A file once more, since buffers that are lent together do not overlap. */
+static const uint8_t *copy_of(const uint8_t *file, size_t bytes)
+{
+    static uint8_t copy[112];
+    if (bytes > 0)
+        memcpy(copy, file, bytes);
+    return copy;
+}
+
+/* Each function that reads a file gives this refusal and touches nothing. */
+static void check_refused_file(const uint8_t *file, size_t bytes, uint32_t refusal, int line)
+{
+    size_t start = 77;
+    fill_buffers();
+    check(tronalhet_read(file, bytes, record_out, WORDS + 1) == refusal, line, "read refuses the file");
+    check(tronalhet_read(file, bytes, NULL, 0) == refusal, line, "read refuses the file before 14");
+    check(refuses(tronalhet_sound(file, bytes, &start, 1), refusal), line, "sound refuses the file");
+    check(refuses(tronalhet_sound(file, bytes, NULL, 0), refusal), line, "sound refuses the file before 14");
+    check(start == 77, line, "sound keeps its start");
+    check(refuses(tronalhet_decode(file, bytes, samples_out, ROOM), refusal), line, "decode refuses the file");
+    check(refuses(tronalhet_decode_block(file, bytes, 0, samples_out, ROOM), refusal), line,
+          "decode_block refuses the file");
+    check(refuses(tronalhet_add(empty_side, 44, file, bytes, 5, 1000, out, ROOM), refusal), line,
+          "add refuses the song");
+    check(refuses(tronalhet_add(file, bytes, song_file, 48, 5, 1000, out, ROOM), 19), line,
+          "add refuses the side");
+    check(refuses(tronalhet_add(file, bytes, copy_of(file, bytes), bytes, 5, 1000, out, ROOM), refusal), line,
+          "add refuses the song before the side");
+    check(buffers_are_untouched(), line, "refused calls touch no buffer");
+}
+
+static void check_faults(void)
+{
+    uint8_t file[112];
+    for (size_t i = 0; i < sizeof faults / sizeof faults[0]; i++) {
+        memcpy(file, cue_file, sizeof cue_file);
+        put_fault(file, &faults[i]);
+        check_refused_file(file, sizeof cue_file, faults[i].refusal, faults[i].line);
+    }
+    for (size_t i = 0; i < sizeof ima_faults / sizeof ima_faults[0]; i++) {
+        memcpy(file, ima_file, sizeof ima_file);
+        put_fault(file, &ima_faults[i]);
+        check_refused_file(file, sizeof ima_file, ima_faults[i].refusal, ima_faults[i].line);
+    }
+    memcpy(file, cue_file, sizeof cue_file);
+    check_refused_file(NULL, 0, 1, __LINE__);
+    check_refused_file(file, 0, 1, __LINE__);
+    check_refused_file(file, 11, 1, __LINE__);
+    check_refused_file(file, 12, 3, __LINE__);
+    check_refused_file(file, 111, 3, __LINE__);
+    memcpy(file + 4, "\x04\0\0", 4);
+    check_refused_file(file, 12, 8, __LINE__);
+    memcpy(file + 4, "\x06\0\0", 4);
+    check_refused_file(file, 14, 4, __LINE__);
+}
+
+/* The words of cue_file, written out. */
+static void fill_cue_record(uint32_t *record)
+{
+    const uint32_t start[12] = {1, 1, 8000, 16, 2, 1, 4, 1, 1, 7, 9, 1};
+    const uint32_t entry[3] = {7, 3, 2};
+    memset(record, 0, WORDS * sizeof *record);
+    memcpy(record, start, sizeof start);
+    memcpy(record + 201, entry, sizeof entry);
+}
+
+static void check_read(void)
+{
+    uint32_t right[WORDS];
+    fill_cue_record(right);
+    fill_buffers();
+    CHECK(tronalhet_read(cue_file, 112, record_out, WORDS) == 0);
+    CHECK(memcmp(record_out, right, sizeof right) == 0);
+    CHECK(is_filled(record_out + WORDS, sizeof record_out[0]));
+    fill_buffers();
+    CHECK(tronalhet_read(cue_file, 112, record_out, WORDS + 1) == 0);
+    CHECK(memcmp(record_out, right, sizeof right) == 0);
+    CHECK(is_filled(record_out + WORDS, sizeof record_out[0]));
+    fill_buffers();
+    CHECK(tronalhet_read(cue_file, 112, record_out, WORDS - 1) == 14);
+    CHECK(tronalhet_read(cue_file, 112, record_out, 0) == 14);
+    CHECK(tronalhet_read(cue_file, 112, NULL, 0) == 14);
+    CHECK(buffers_are_untouched());
+}
+
+static void check_read_formats(void)
+{
+    const uint32_t ima[9] = {17, 1, 8000, 4, 12, 17, 17, 0, 0};
+    const uint32_t microsoft[9] = {2, 1, 8000, 4, 8, 4, 4, 0, 0};
+    const uint32_t stereo[9] = {1, 2, 8000, 8, 2, 1, 1, 0, 0};
+    const uint32_t zeros[WORDS - 9] = {0};
+    CHECK(tronalhet_read(ima_file, 72, record_out, WORDS) == 0);
+    CHECK(memcmp(record_out, ima, sizeof ima) == 0);
+    CHECK(tronalhet_read(microsoft_file, 98, record_out, WORDS) == 0);
+    CHECK(memcmp(record_out, microsoft, sizeof microsoft) == 0);
+    CHECK(tronalhet_read(stereo_file, 56, record_out, WORDS) == 0);
+    CHECK(memcmp(record_out, stereo, sizeof stereo) == 0);
+    CHECK(memcmp(record_out + 9, zeros, sizeof zeros) == 0);
+}
+
+static void check_sound(void)
+{
+    size_t start[2] = {77, 78};
+    CHECK(gives(tronalhet_sound(cue_file, 112, start, 1), 8));
+    CHECK(start[0] == 104 && start[1] == 78);
+    CHECK(gives(tronalhet_sound(ima_file, 72, start, 2), 12));
+    CHECK(start[0] == 60 && start[1] == 78);
+    CHECK(gives(tronalhet_sound(microsoft_file, 98, start, 1), 8));
+    CHECK(start[0] == 90);
+    CHECK(gives(tronalhet_sound(stereo_file, 56, start, 1), 2));
+    CHECK(start[0] == 54);
+    CHECK(gives(tronalhet_sound(empty_side, 44, start, 1), 0));
+    CHECK(start[0] == 44);
+    start[0] = 77;
+    CHECK(refuses(tronalhet_sound(cue_file, 112, start, 0), 14));
+    CHECK(refuses(tronalhet_sound(cue_file, 112, NULL, 0), 14));
+    CHECK(start[0] == 77);
+}
+
+/* Writes a file from its own record and sound, and expects the same bytes again. */
+static void check_written_again(const uint8_t *file, size_t bytes, int line)
+{
+    uint32_t record[WORDS];
+    size_t start = 0;
+    fill_buffers();
+    check(tronalhet_read(file, bytes, record, WORDS) == 0, line, "the file is read");
+    tronalhet_answer sound = tronalhet_sound(file, bytes, &start, 1);
+    tronalhet_answer answer = tronalhet_write(record, WORDS, file + start, sound.n, out, bytes);
+    check(gives(answer, bytes), line, "the file is written again");
+    check(memcmp(out, file, bytes) == 0, line, "the written file is the same");
+    check(is_filled(out + bytes, sizeof out - bytes), line, "the rest of the buffer is untouched");
+}
+
+static void check_write(void)
+{
+    uint32_t record[WORDS + 1];
+    uint32_t again[WORDS];
+    const uint8_t *sound = cue_file + 104;
+    fill_cue_record(record);
+    record[WORDS] = 4;
+    fill_buffers();
+    CHECK(gives(tronalhet_write(record, WORDS, sound, 8, out, ROOM), 112));
+    CHECK(memcmp(out, cue_file, 112) == 0);
+    CHECK(is_filled(out + 112, sizeof out - 112));
+    CHECK(tronalhet_read(out, 112, again, WORDS) == 0);
+    CHECK(memcmp(again, record, sizeof again) == 0);
+    record[12] = 1;
+    record[200] = 4;
+    record[204] = 1;
+    record[392] = 4;
+    fill_buffers();
+    CHECK(gives(tronalhet_write(record, WORDS + 1, sound, 8, out, 112), 112));
+    CHECK(memcmp(out, cue_file, 112) == 0);
+    check_written_again(cue_file, 112, __LINE__);
+    check_written_again(ima_file, 72, __LINE__);
+    check_written_again(microsoft_file, 98, __LINE__);
+    check_written_again(empty_side, 44, __LINE__);
+    check_written_again(song_file, 48, __LINE__);
+}
+
+/* One odd byte of sound: 46 bytes, and the writer's pad is zero. */
+static void check_write_odd(void)
+{
+    const uint32_t start[9] = {1, 1, 8000, 8, 1, 1, 1, 0, 0};
+    const uint8_t right[10] = {'d', 'a', 't', 'a', 1, 0, 0, 0, 200, 0};
+    uint32_t record[WORDS] = {0};
+    uint8_t sound = 200;
+    memcpy(record, start, sizeof start);
+    fill_buffers();
+    CHECK(refuses(tronalhet_write(record, WORDS, &sound, 1, out, 45), 14));
+    CHECK(buffers_are_untouched());
+    CHECK(gives(tronalhet_write(record, WORDS, &sound, 1, out, 46), 46));
+    CHECK(memcmp(out + 36, right, sizeof right) == 0);
+    CHECK(is_filled(out + 46, sizeof out - 46));
+    record[6] = 0;
+    fill_buffers();
+    CHECK(gives(tronalhet_write(record, WORDS, NULL, 0, out, 46), 44));
+    CHECK(is_filled(out + 44, sizeof out - 44));
+}
+
+/* One word of cue_file's record changed, with the refusal that this gives. */
+struct word_fault {
+    int line;
+    uint32_t refusal;
+    size_t place;
+    uint32_t value;
+};
+
+static const struct word_fault word_faults[] = {
+    {__LINE__, 9, 0, 0},
+    {__LINE__, 9, 0, 65537},
+    {__LINE__, 9, 0, 17},
+    {__LINE__, 9, 1, 0},
+    {__LINE__, 9, 1, 3},
+    {__LINE__, 9, 1, 65537},
+    {__LINE__, 9, 2, 0},
+    {__LINE__, 9, 2, 192001},
+    {__LINE__, 9, 2, 4294967295u},
+    {__LINE__, 9, 3, 4},
+    {__LINE__, 9, 3, 65552},
+    {__LINE__, 9, 4, 4},
+    {__LINE__, 9, 4, 65538},
+    {__LINE__, 9, 5, 0},
+    {__LINE__, 9, 5, 2},
+    {__LINE__, 9, 5, 65537},
+    {__LINE__, 11, 6, 3},
+    {__LINE__, 11, 6, 5},
+    {__LINE__, 11, 6, 4294967295u},
+    {__LINE__, 12, 7, 65},
+    {__LINE__, 12, 7, 4294967295u},
+    {__LINE__, 12, 11, 4},
+    {__LINE__, 12, 11, 4294967295u},
+    {__LINE__, 13, 7, 0},
+    {__LINE__, 13, 8, 65},
+    {__LINE__, 13, 8, 4294967295u},
+    {__LINE__, 13, 201, 8},
+    {__LINE__, 13, 202, 0},
+    {__LINE__, 13, 202, 4},
+    {__LINE__, 13, 202, 4294967295u},
+    {__LINE__, 13, 203, 0},
+};
+
+static void check_write_refusals(void)
+{
+    uint32_t record[WORDS];
+    const uint8_t *sound = cue_file + 104;
+    fill_buffers();
+    for (size_t i = 0; i < sizeof word_faults / sizeof word_faults[0]; i++) {
+        const struct word_fault *fault = &word_faults[i];
+        fill_cue_record(record);
+        record[fault->place] = fault->value;
+        tronalhet_answer answer = tronalhet_write(record, WORDS, sound, 8, out, ROOM);
+        check(refuses(answer, fault->refusal), fault->line, "write refuses the word");
+        answer = tronalhet_write(record, WORDS, sound, 8, NULL, 0);
+        check(refuses(answer, fault->refusal), fault->line, "write refuses the word before 14");
+    }
+    fill_cue_record(record);
+    CHECK(refuses(tronalhet_write(NULL, 0, sound, 8, out, ROOM), 9));
+    CHECK(refuses(tronalhet_write(record, 0, sound, 8, out, ROOM), 9));
+    CHECK(refuses(tronalhet_write(record, WORDS - 1, sound, 8, out, ROOM), 9));
+    CHECK(refuses(tronalhet_write(record, WORDS, sound, 7, out, ROOM), 10));
+    CHECK(refuses(tronalhet_write(record, WORDS, sound, 6, out, ROOM), 11));
+    CHECK(refuses(tronalhet_write(record, WORDS, NULL, 0, out, ROOM), 11));
+    CHECK(refuses(tronalhet_write(record, WORDS, sound, 8, out, 111), 14));
+    CHECK(refuses(tronalhet_write(record, WORDS, sound, 8, out, 0), 14));
+    CHECK(refuses(tronalhet_write(record, WORDS, sound, 8, NULL, 0), 14));
+    record[10] = 4294967295u;
+    record[7] = 2;
+    record[12] = 7;
+    CHECK(refuses(tronalhet_write(record, WORDS, sound, 8, out, ROOM), 12));
+    CHECK(buffers_are_untouched());
+}
+
+/* Decodes a file into exact room, and with a sample too few. */
+static void check_decoded(const uint8_t *file, size_t bytes, const int16_t *right, size_t samples,
+                          size_t frames, int line)
+{
+    fill_buffers();
+    check(refuses(tronalhet_decode(file, bytes, samples_out, samples - 1), 14), line, "a sample too few is 14");
+    check(refuses(tronalhet_decode(file, bytes, NULL, 0), 14), line, "no room is 14");
+    check(buffers_are_untouched(), line, "14 touches no buffer");
+    check(gives(tronalhet_decode(file, bytes, samples_out, samples), frames), line, "the file is decoded");
+    check(memcmp(samples_out, right, samples * sizeof *right) == 0, line, "the samples are right");
+    check(is_filled(samples_out + samples, (ROOM - samples) * sizeof *right), line, "the rest is untouched");
+}
+
+static void check_decode(void)
+{
+    const int16_t cue_samples[4] = {1, -1, 32767, -32768};
+    const int16_t stereo_samples[2] = {-32768, 32512};
+    const int16_t microsoft_samples[4] = {50, 100, 116, 100};
+    uint8_t file[98];
+    check_decoded(cue_file, 112, cue_samples, 4, 4, __LINE__);
+    check_decoded(stereo_file, 56, stereo_samples, 2, 1, __LINE__);
+    check_decoded(ima_file, 72, ima_samples, 17, 17, __LINE__);
+    check_decoded(microsoft_file, 98, microsoft_samples, 4, 4, __LINE__);
+    CHECK(gives(tronalhet_decode(empty_side, 44, NULL, 0), 0));
+    fill_buffers();
+    CHECK(gives(tronalhet_decode(empty_side, 44, samples_out, ROOM), 0));
+    CHECK(buffers_are_untouched());
+    memcpy(file, ima_file, sizeof ima_file);
+    file[62] = 89;
+    CHECK(refuses(tronalhet_decode(file, 72, samples_out, 17), 15));
+    CHECK(refuses(tronalhet_decode(file, 72, samples_out, 16), 14));
+    memcpy(file, microsoft_file, sizeof microsoft_file);
+    file[90] = 7;
+    CHECK(refuses(tronalhet_decode(file, 98, samples_out, 4), 15));
+    CHECK(refuses(tronalhet_decode(file, 98, samples_out, 3), 14));
+    CHECK(buffers_are_untouched());
+}
+
+/* A file of one frame still has the whole block behind it. */
+static void check_decode_block(void)
+{
+    uint8_t file[72];
+    memcpy(file, ima_file, sizeof ima_file);
+    file[48] = 1;
+    fill_buffers();
+    CHECK(gives(tronalhet_decode(file, 72, samples_out, 1), 1));
+    CHECK(samples_out[0] == -32768 && is_filled(samples_out + 1, (ROOM - 1) * sizeof samples_out[0]));
+    CHECK(gives(tronalhet_decode_block(file, 72, 0, samples_out, 17), 17));
+    CHECK(memcmp(samples_out, ima_samples, sizeof ima_samples) == 0);
+    CHECK(is_filled(samples_out + 17, (ROOM - 17) * sizeof samples_out[0]));
+    CHECK(gives(tronalhet_decode_block(microsoft_file, 98, 0, samples_out, ROOM), 4));
+    CHECK(samples_out[0] == 50 && samples_out[1] == 100 && samples_out[2] == 116 && samples_out[3] == 100);
+    fill_buffers();
+    CHECK(refuses(tronalhet_decode_block(cue_file, 112, 0, samples_out, ROOM), 20));
+    CHECK(refuses(tronalhet_decode_block(stereo_file, 56, 0, NULL, 0), 20));
+    CHECK(refuses(tronalhet_decode_block(file, 72, 1, samples_out, ROOM), 20));
+    CHECK(refuses(tronalhet_decode_block(file, 72, 4294967295u, samples_out, 0), 20));
+    CHECK(refuses(tronalhet_decode_block(file, 72, 0x40000000u, samples_out, ROOM), 20));
+    CHECK(refuses(tronalhet_decode_block(file, 72, 0, samples_out, 16), 14));
+    CHECK(refuses(tronalhet_decode_block(file, 72, 0, NULL, 0), 14));
+    file[62] = 89;
+    CHECK(refuses(tronalhet_decode_block(file, 72, 0, samples_out, 17), 15));
+    CHECK(refuses(tronalhet_decode_block(file, 72, 0, samples_out, 16), 14));
+    CHECK(refuses(tronalhet_decode_block(file, 72, 1, samples_out, 17), 20));
+    CHECK(buffers_are_untouched());
+}
+
+static bool codes(tronalhet_coded coded, size_t n, uint32_t left, uint32_t right)
+{
+    return coded.refusal == 0 && coded.n == n && coded.left == left && coded.right == right;
+}
+
+/* The printed example; then 0, 1000, whose fill is chased no more: codes 7 7 7 7 7 5 0 8. */
+static void check_encode(void)
+{
+    const int16_t printed[17] = {-32768, 32767, 32767, 32767, 32767, 32767, 32767, 32767, 32767,
+                                 32767,  32767, 32767, 32767, 32767, 32767, 32767, 32767};
+    const int16_t jump[2] = {0, 1000};
+    const uint8_t jump_block[8] = {0, 0, 0, 0, 0x77, 0x77, 0x57, 0x80};
+    const uint8_t stereo_block[16] = {0, 0, 0, 0, 0xE8, 0x03, 0, 0};
+    const int16_t pair[2] = {0, 1000};
+    fill_buffers();
+    CHECK(codes(tronalhet_encode(printed, 17, 1, 12, out, 12), 12, 11, 0));
+    CHECK(memcmp(out, ima_file + 60, 12) == 0);
+    CHECK(is_filled(out + 12, sizeof out - 12));
+    CHECK(codes(tronalhet_encode(jump, 2, 1, 8, out, ROOM), 8, 1, 0));
+    CHECK(memcmp(out, jump_block, 8) == 0);
+    fill_buffers();
+    CHECK(codes(tronalhet_encode(pair, 2, 2, 16, out, 16), 16, 0, 0));
+    CHECK(memcmp(out, stereo_block, 16) == 0);
+    CHECK(is_filled(out + 16, sizeof out - 16));
+    fill_buffers();
+    CHECK(codes(tronalhet_encode(NULL, 0, 1, 8, NULL, 0), 0, 0, 0));
+    CHECK(codes(tronalhet_encode(printed, 0, 2, 4096, out, ROOM), 0, 0, 0));
+    CHECK(buffers_are_untouched());
+}
+
+/* Two stereo frames: only the right channel jumps, by 1000, and is chased once. Then ten mono samples in
+ * blocks of nine: the codes 7 0 8 8 0 8 0 8 leave 11 at index 1, where the second block starts; its fill
+ * has the codes 0 9 0 0 0 0 0 0. */
+static void check_encode_channels(void)
+{
+    const int16_t stereo[4] = {0, 0, 0, 1000};
+    const uint8_t stereo_block[16] = {0, 0, 0, 0, 0, 0, 0, 0, 0, 0, 0, 0, 0x77, 0x77, 0x57, 0x80};
+    const int16_t ten[10] = {0, 14, 11, 11, 11, 11, 11, 11, 11, 11};
+    const uint8_t ten_blocks[16] = {0, 0, 0, 0, 0x07, 0x88, 0x80, 0x80, 11, 0, 1, 0, 0x90, 0, 0, 0};
+    fill_buffers();
+    CHECK(codes(tronalhet_encode(stereo, 4, 2, 16, out, 16), 16, 0, 1));
+    CHECK(memcmp(out, stereo_block, 16) == 0);
+    CHECK(refuses_coded(tronalhet_encode(ten, 10, 1, 8, out, 15), 14));
+    CHECK(codes(tronalhet_encode(ten, 10, 1, 8, out, 16), 16, 1, 0));
+    CHECK(memcmp(out, ten_blocks, 16) == 0);
+    CHECK(is_filled(out + 16, sizeof out - 16));
+}
+
+static void check_encode_refusals(void)
+{
+    const int16_t sound[4] = {1, 2, 3, 4};
+    fill_buffers();
+    CHECK(refuses_coded(tronalhet_encode(sound, 4, 0, 8, out, ROOM), 9));
+    CHECK(refuses_coded(tronalhet_encode(sound, 4, 3, 24, out, ROOM), 9));
+    CHECK(refuses_coded(tronalhet_encode(sound, 4, 65535, 8, out, ROOM), 9));
+    CHECK(refuses_coded(tronalhet_encode(sound, 4, 1, 0, out, ROOM), 9));
+    CHECK(refuses_coded(tronalhet_encode(sound, 4, 1, 4, out, ROOM), 9));
+    CHECK(refuses_coded(tronalhet_encode(sound, 4, 1, 10, out, ROOM), 9));
+    CHECK(refuses_coded(tronalhet_encode(sound, 4, 1, 4100, out, ROOM), 9));
+    CHECK(refuses_coded(tronalhet_encode(sound, 4, 2, 8, out, ROOM), 9));
+    CHECK(refuses_coded(tronalhet_encode(sound, 4, 2, 20, out, ROOM), 9));
+    CHECK(refuses_coded(tronalhet_encode(sound, 3, 2, 12, out, ROOM), 9));
+    CHECK(refuses_coded(tronalhet_encode(NULL, 0, 0, 0, NULL, 0), 9));
+    CHECK(refuses_coded(tronalhet_encode(sound, 3, 2, 16, out, ROOM), 10));
+    CHECK(refuses_coded(tronalhet_encode(sound, 3, 2, 16, NULL, 0), 10));
+    CHECK(refuses_coded(tronalhet_encode(sound, 4, 2, 16, out, 15), 14));
+    CHECK(refuses_coded(tronalhet_encode(sound, 4, 2, 16, out, 0), 14));
+    CHECK(refuses_coded(tronalhet_encode(sound, 4, 1, 4096, NULL, 0), 14));
+    CHECK(buffers_are_untouched());
+}
+
+/* The second song of a side: position and place are the frames before it. */
+static void check_second_song(void)
+{
+    const uint32_t start[15] = {1, 1, 8000, 16, 2, 1, 4, 2, 2, 5, 0, 0, 6, 2, 2};
+    const uint32_t entries[6] = {5, 2, 1, 6, 2, 1};
+    const uint8_t sound[8] = {1, 0, 2, 0, 1, 0, 2, 0};
+    size_t place = 0;
+    fill_buffers();
+    CHECK(gives(tronalhet_add(side_of_one, 108, song_file, 48, 6, 4, out, 148), 148));
+    CHECK(is_filled(out + 148, sizeof out - 148));
+    CHECK(tronalhet_read(out, 148, record_out, WORDS) == 0);
+    CHECK(memcmp(record_out, start, sizeof start) == 0);
+    CHECK(memcmp(record_out + 201, entries, sizeof entries) == 0);
+    CHECK(gives(tronalhet_sound(out, 148, &place, 1), 8));
+    CHECK(place == 140 && memcmp(out + 140, sound, 8) == 0);
+}
+
+static void check_add(void)
+{
+    fill_buffers();
+    CHECK(gives(tronalhet_add(empty_side, 44, song_file, 48, 5, 2, out, 108), 108));
+    CHECK(memcmp(out, side_of_one, 108) == 0);
+    CHECK(is_filled(out + 108, sizeof out - 108));
+    fill_buffers();
+    CHECK(gives(tronalhet_add(empty_side, 44, song_file, 48, 5, 4294967295u, out, ROOM), 108));
+    CHECK(memcmp(out, side_of_one, 108) == 0);
+    CHECK(is_filled(out + 108, sizeof out - 108));
+    fill_buffers();
+    CHECK(refuses(tronalhet_add(side_of_one, 108, song_file, 48, 5, 1000, out, ROOM), 18));
+    CHECK(refuses(tronalhet_add(side_of_one, 108, song_file, 48, 5, 0, NULL, 0), 18));
+    CHECK(refuses(tronalhet_add(side_of_one, 108, song_file, 48, 6, 3, out, ROOM), 17));
+    CHECK(refuses(tronalhet_add(side_of_one, 108, song_file, 48, 6, 0, NULL, 0), 17));
+    CHECK(refuses(tronalhet_add(side_of_one, 108, song_file, 48, 6, 4, out, 147), 14));
+    CHECK(refuses(tronalhet_add(empty_side, 44, song_file, 48, 5, 1, out, ROOM), 17));
+    CHECK(refuses(tronalhet_add(empty_side, 44, song_file, 48, 5, 2, out, 107), 14));
+    CHECK(refuses(tronalhet_add(empty_side, 44, song_file, 48, 5, 2, out, 0), 14));
+    CHECK(refuses(tronalhet_add(empty_side, 44, song_file, 48, 5, 2, NULL, 0), 14));
+    CHECK(refuses(tronalhet_add(empty_side, 44, copy_of(empty_side, 44), 44, 5, 2, out, ROOM), 16));
+    CHECK(refuses(tronalhet_add(side_of_one, 108, empty_side, 44, 5, 2, out, ROOM), 16));
+    CHECK(refuses(tronalhet_add(NULL, 0, song_file, 48, 5, 2, out, ROOM), 19));
+    CHECK(refuses(tronalhet_add(empty_side, 44, NULL, 0, 5, 2, out, ROOM), 1));
+    CHECK(refuses(tronalhet_add(NULL, 0, NULL, 0, 5, 2, NULL, 0), 1));
+    CHECK(buffers_are_untouched());
+}
+
+/* Other sound under a listed number, songs that do not fit the side, and files that are no side. */
+static void check_add_misfits(void)
+{
+    uint8_t file[108];
+    memcpy(file, song_file, sizeof song_file);
+    file[47] = 1;
+    fill_buffers();
+    CHECK(refuses(tronalhet_add(side_of_one, 108, file, 48, 5, 1000, out, ROOM), 16));
+    memcpy(file, song_file, sizeof song_file);
+    file[4] = 38;
+    file[40] = 2;
+    CHECK(refuses(tronalhet_add(side_of_one, 108, file, 46, 5, 1000, out, ROOM), 16));
+    memcpy(file, song_file, sizeof song_file);
+    file[24] = 0x41;
+    file[28] = 0x82;
+    CHECK(refuses(tronalhet_add(side_of_one, 108, file, 48, 6, 1000, out, ROOM), 9));
+    CHECK(refuses(tronalhet_add(side_of_one, 108, stereo_file, 56, 6, 1000, out, ROOM), 9));
+    CHECK(refuses(tronalhet_add(side_of_one, 108, ima_file, 72, 6, 1000, out, ROOM), 9));
+    CHECK(refuses(tronalhet_add(cue_file, 112, song_file, 48, 6, 1000, out, ROOM), 19));
+    CHECK(refuses(tronalhet_add(cue_file, 112, ima_file, 72, 6, 1000, out, ROOM), 19));
+    CHECK(refuses(tronalhet_add(song_file, 48, copy_of(song_file, 48), 48, 6, 1000, out, ROOM), 19));
+    CHECK(refuses(tronalhet_add(stereo_file, 56, copy_of(stereo_file, 56), 56, 6, 1000, out, ROOM), 19));
+    memcpy(file, side_of_one, sizeof side_of_one);
+    file[92] = 2;
+    CHECK(refuses(tronalhet_add(file, 108, song_file, 48, 6, 1000, out, ROOM), 19));
+    file[92] = 1;
+    file[88] = 1;
+    CHECK(refuses(tronalhet_add(file, 108, song_file, 48, 6, 1000, out, ROOM), 19));
+    CHECK(buffers_are_untouched());
+}
+
+/* A side takes 64 songs. With c songs of two frames it has 12 + 24 + 12 + 24c + 12 + 12c + 8 + 4c bytes. */
+static void check_full_side(void)
+{
+    static uint8_t side[ROOM];
+    size_t bytes = sizeof empty_side;
+    memcpy(side, empty_side, bytes);
+    for (uint32_t songs = 1; songs <= 64; songs++) {
+        tronalhet_answer answer = tronalhet_add(side, bytes, song_file, 48, 100 + songs, 128, out, ROOM);
+        CHECK(gives(answer, 68 + 40 * songs));
+        bytes = answer.n;
+        memcpy(side, out, bytes);
+    }
+    fill_buffers();
+    CHECK(refuses(tronalhet_add(side, bytes, song_file, 48, 5, 4294967295u, out, ROOM), 17));
+    CHECK(refuses(tronalhet_add(side, bytes, song_file, 48, 164, 4294967295u, out, ROOM), 18));
+    CHECK(refuses(tronalhet_add(side, bytes, cue_file, 112, 101, 4294967295u, out, ROOM), 16));
+    CHECK(refuses(tronalhet_add(side, bytes, cue_file, 112, 5, 4294967295u, out, ROOM), 17));
+    CHECK(buffers_are_untouched());
+}
+
+/* The size limit: one byte, or one sample, past it is refused by its length alone, before a lack of room.
+ * The memory is only reserved: no function looks at the sound of a file that it refuses by its length. */
+static void check_too_long(void)
+{
+    const size_t limit = 1073741824;
+    uint8_t *file = calloc(limit + 2, 1);
+    CHECK(file != NULL);
+    if (file == NULL)
+        return;
+    CHECK(tronalhet_read(file, limit + 1, NULL, 0) == 1);
+    CHECK(tronalhet_read(file, limit, NULL, 0) == 2);
+    CHECK(tronalhet_encode((const int16_t *)(void *)file, limit / 2 + 1, 1, 8, NULL, 0).refusal == 1);
+    CHECK(tronalhet_encode((const int16_t *)(void *)file, limit / 2, 1, 8, NULL, 0).refusal == 14);
+
+    /* A song of the limit's length: its header, and as many frames as are left. */
+    static const uint8_t size_of_riff[4] = {0xF8, 0xFF, 0xFF, 0x3F};
+    static const uint8_t size_of_data[4] = {0xD4, 0xFF, 0xFF, 0x3F};
+    memcpy(file, empty_side, sizeof empty_side);
+    memcpy(file + 4, size_of_riff, 4);
+    memcpy(file + 40, size_of_data, 4);
+    uint32_t record[WORDS];
+    CHECK(tronalhet_read(file, limit, record, WORDS) == 0);
+    CHECK(record[6] == 536870890);
+    CHECK(tronalhet_write(record, WORDS, file, limit - 44, NULL, 0).refusal == 14);
+    CHECK(tronalhet_add(empty_side, sizeof empty_side, file, limit, 5, UINT32_MAX, NULL, 0).refusal == 1);
+    record[6]++;
+    CHECK(tronalhet_write(record, WORDS, file, limit - 42, NULL, 0).refusal == 1);
+    free(file);
+}
+
+int main(void)
+{
+    check_faults();
+    check_read();
+    check_read_formats();
+    check_sound();
+    check_write();
+    check_write_odd();
+    check_write_refusals();
+    check_decode();
+    check_decode_block();
+    check_encode();
+    check_encode_channels();
+    check_encode_refusals();
+    check_add();
+    check_second_song();
+    check_add_misfits();
+    check_full_side();
+    check_too_long();
+    printf("calls: %u checks, %u failed\n", checks, failed);
+    return failed == 0 ? 0 : 1;
+}
