@@ -1,7 +1,7 @@
 pub mod Answers
 pub mod Blocks
 pub mod Demands
-pub mod Examples
+pub mod Reached
 pub mod Frames
 pub mod Heard
 pub mod Loops

@@ -1,4 +1,3 @@
 pub mod Encoding
 pub mod Answer
 pub mod Demands
-pub mod Examples

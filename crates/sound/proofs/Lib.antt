@@ -1,4 +1,3 @@
 pub mod Checks
 pub mod Files
 pub mod Demands
-pub mod Examples
