@@ -29,14 +29,17 @@ ROOT = pathlib.Path(__file__).resolve().parent.parent
 KIT = pathlib.Path(os.environ.get('RATTLE_HOME') or pathlib.Path(shutil.which('rt')).resolve().parent.parent)
 
 
-def run(name, *words, **options):
-    """What a program writes with these arguments; on another processor than x86-64 the kit's emulator runs it."""
+def command(name):
+    """The words that start a program; on another processor than x86-64 the kit's emulator runs it."""
     tools = KIT / 'on' / platform.machine() / 'toolchain'
     emulator = tools / 'bin' / 'qemu-x86_64'
-    command = [tools / 'lib' / 'ld-linux-x86-64.so.2', '--library-path', tools / 'lib', ROOT / 'target' / 'bin' / name]
-    if emulator.exists():
-        command.insert(0, emulator)
-    return subprocess.run([*command, *words], stdout=subprocess.PIPE, check=True, **options).stdout.decode()
+    words = [tools / 'lib' / 'ld-linux-x86-64.so.2', '--library-path', tools / 'lib', ROOT / 'target' / 'bin' / name]
+    return [emulator, *words] if emulator.exists() else words
+
+
+def run(name, *words, **options):
+    """What a program writes with these arguments."""
+    return subprocess.run([*command(name), *words], stdout=subprocess.PIPE, check=True, **options).stdout.decode()
 
 
 def long_file(n):

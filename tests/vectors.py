@@ -15,6 +15,7 @@ import approval_copies
 import ima_sounds
 import other_programs
 import other_songs
+import second_command
 import second_ima
 import second_reader
 import second_sound
@@ -218,6 +219,33 @@ def side_other():
     return named(other_songs.expected())
 
 
+def copied(program, *sources):
+    """The files that a program is run on, which are copies of files that stand elsewhere, and nothing else."""
+    there = {path.name: path.read_bytes() for path in (CRATES / program / 'data').iterdir()}
+    if there != {path.name: path.read_bytes() for path in sources}:
+        raise ValueError(f'the files of {program}/data are not as they stand elsewhere')
+    return [there[path.name] for path in sources]
+
+
+def command(program, work, sources, *more):
+    """For a program that a volunteer calls: no input, what it must print, and the words that it is called with.
+
+    The first words name the sources; of the others, numbers are known to the work too, and names are of new files.
+    """
+    numbers = [word for word in more if isinstance(word, int)]
+    lines, _ = second_command.answer(work, *copied(program, *sources), *numbers)
+    return b'', ''.join(f'{line}\n' for line in lines), [*(path.name for path in sources), *more]
+
+
+def commands():
+    """The programs that a volunteer calls, by name."""
+    others, heard, demo = CRATES / 'other_programs' / 'data', CRATES / 'sound_other' / 'data', CRATES.parent / 'demo'
+    yield 'wave_check', second_command.check, [others / 'sndfile-pcm16-mono-cues.wav']
+    yield 'wave_decode', second_command.decode, [heard / 'sox-ima-mono-short-block.wav'], 'decoded.wav'
+    yield 'wave_encode', second_command.encode, [heard / 'sox-pcm16-mono-clipped.wav'], 'copy.wav', 256
+    yield 'side_add', second_command.add, [demo / 'empty-side.wav', demo / 'school-song.wav'], 102, 4000, 'side.wav'
+
+
 def programs():
     """For each program its standard input, its arguments and what it must print."""
     makers = units, little, samples, reader, ima, sound, writer, side, approval
@@ -229,6 +257,7 @@ def programs():
     made['sound_other'] = sound_other()
     made['written_other'] = written_other()
     made['side_other'] = side_other()
+    made.update({words[0]: command(*words) for words in commands()})
     made['side_story'] = b'', '\n'.join(side_story.lines()) + '\n', None
     return made
 

@@ -1,0 +1,67 @@
+// side_add SIDE SONG NUMBER LIMIT OUT: adds a song under its donation number to a side that may have LIMIT
+// frames, and writes the new side. OUT may be SIDE itself: both files are read before it is written. Prints the
+// number and how many bytes the new side has; or the number of the refusal, 18 where the song is on the side.
+//
+// SIDE and SONG may have 262,144 bytes each at most; a longer one is `refused 1`. The new side has less than
+// 4,096 bytes more than both together.
+use files::Input;
+use files::Said;
+use wave::Added;
+use wave::Donation;
+use wave::Frames;
+
+// Puts the new side where it is to be, and says what was added.
+fn keep(number: Donation, file: &[u8]) {
+    if !files::write(b"side_add", 5, file) {
+        return;
+    }
+    show::field(b"added ", number.0 as u64);
+    show::line();
+    files::size(file);
+}
+
+// Adds a song to a side.
+fn add(side: &[u8], song: &[u8], number: Donation, limit: Frames) {
+    let mut out = files::new_room();
+    match wave::add(side, song, number, limit, &mut out) {
+        Added::Bytes(size) => keep(number, riff::bytes_from(&out, 0, size.0)),
+        Added::Refused(refusal) => listing::refused(refusal),
+    }
+}
+
+// Adds the song that is named to a side of so many bytes.
+fn add_to(side: &[u8], number: Donation, limit: Frames) {
+    let mut buffer = files::file_room();
+    let Input::Bytes(n) = files::read(b"side_add", 2, &mut buffer) else {
+        return;
+    };
+    if files::too_long(side.len()) {
+        return;
+    }
+    if files::too_long(n) {
+        return;
+    }
+    add(side, riff::bytes_from(&buffer, 0, n), number, limit);
+}
+
+// Reads the side.
+fn start(number: Donation, limit: Frames) {
+    let mut buffer = files::file_room();
+    let Input::Bytes(n) = files::read(b"side_add", 1, &mut buffer) else {
+        return;
+    };
+    add_to(riff::bytes_from(&buffer, 0, n), number, limit);
+}
+
+fn main() {
+    if !files::called(6, b"side_add SIDE SONG NUMBER LIMIT OUT") {
+        return;
+    }
+    let Said::Number(number) = files::number(b"side_add", 3, b"NUMBER", 4294967295) else {
+        return;
+    };
+    let Said::Number(limit) = files::number(b"side_add", 4, b"LIMIT", 4294967295) else {
+        return;
+    };
+    start(Donation(number), Frames(limit));
+}

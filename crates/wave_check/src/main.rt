@@ -1,0 +1,28 @@
+// wave_check FILE: says whether a WAVE file is accepted, or the number of its refusal. The file may have
+// 262,144 bytes at most; a longer one is `refused 1`.
+use files::Input;
+use wave::Verdict;
+
+// The verdict on a file.
+fn check(file: &[u8]) {
+    let reading = wave::read(file);
+    let verdict = reading.verdict;
+    match verdict {
+        Verdict::Accepted => show::word(b"accepted\n"),
+        Verdict::Refused(refusal) => listing::refused(refusal),
+    }
+}
+
+fn main() {
+    if !files::called(2, b"wave_check FILE") {
+        return;
+    }
+    let mut buffer = files::file_room();
+    let Input::Bytes(n) = files::read(b"wave_check", 1, &mut buffer) else {
+        return;
+    };
+    if files::too_long(n) {
+        return;
+    }
+    check(riff::bytes_from(&buffer, 0, n));
+}

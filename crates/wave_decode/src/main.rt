@@ -1,0 +1,92 @@
+// wave_decode IN OUT: decodes a WAVE file, and writes its sound as a WAVE file of 16-bit PCM with the same
+// channels, rate, cues and playlist. Prints how many frames it has and how many bytes the new file, or the
+// number of the refusal.
+//
+// IN may have 262,144 bytes at most; a longer one is `refused 1`. A byte holds less than two samples in every
+// format, so 524,288 samples are room enough, and twice as many bytes and 4,096 for a file with full tables.
+use files::Input;
+use wave::Decoded;
+use wave::Format;
+use wave::Frames;
+use wave::Record;
+use wave::Written;
+
+// The bytes of a frame of 16-bit PCM.
+fn frame_size(channels: u16) -> u16 {
+    if channels == 2 { 4 } else { 2 }
+}
+
+// The record of a file's sound as 16-bit PCM: places and lengths are frames, so they stay as they are.
+fn plain(made: Record) -> Record {
+    let old = made.format;
+    let format = Format {
+        tag: formats::PCM,
+        channels: old.channels,
+        rate: old.rate,
+        bits: 16,
+        align: frame_size(old.channels),
+        samples: 1,
+    };
+    let frames = made.frames;
+    let cues = made.cues;
+    let playlist = made.playlist;
+    Record {
+        format: format,
+        frames: frames,
+        cues: cues,
+        playlist: playlist,
+    }
+}
+
+// Puts a file where it is to be, and says what it holds.
+fn keep(frames: Frames, file: &[u8]) {
+    if !files::write(b"wave_decode", 2, file) {
+        return;
+    }
+    listing::frames(frames);
+    files::size(file);
+}
+
+// Writes the file of a record and its sound.
+fn write(made: Record, sound: &[u8]) {
+    let mut out = files::long_room();
+    match wave::write(made, sound, &mut out) {
+        Written::Bytes(size) => keep(made.frames, riff::bytes_from(&out, 0, size.0)),
+        Written::Refused(refusal) => listing::refused(refusal),
+    }
+}
+
+// Writes the frames at the start of a sound.
+fn write_sound(made: Record, sound: &[i16; 524288]) {
+    let mut raw = files::long_room();
+    samples::to_pcm16(sound, &mut raw);
+    let format = made.format;
+    let frames = made.frames;
+    let n = files::samples_in(frames, format.channels);
+    write(made, riff::bytes_from(&raw, 0, 2 * n));
+}
+
+// Decodes a file.
+fn decode(file: &[u8]) {
+    let reading = wave::read(file);
+    let made = reading.made;
+    let mut sound = files::sound_room();
+    match wave::decode(file, &mut sound) {
+        Decoded::Frames(_) => write_sound(plain(made), &sound),
+        Decoded::Refused(refusal) => listing::refused(refusal),
+    }
+}
+
+fn main() {
+    if !files::called(3, b"wave_decode IN OUT") {
+        return;
+    }
+    let mut buffer = files::file_room();
+    let Input::Bytes(n) = files::read(b"wave_decode", 1, &mut buffer) else {
+        return;
+    };
+    if files::too_long(n) {
+        return;
+    }
+    decode(riff::bytes_from(&buffer, 0, n));
+}

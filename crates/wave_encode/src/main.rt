@@ -1,0 +1,106 @@
+// wave_encode IN OUT ALIGN: makes the approval copy that a donor gets. Decodes a WAVE file, encodes its sound
+// to IMA blocks of ALIGN bytes, and writes them as a WAVE file. Prints how many frames it has, how many bytes
+// the new file, and how many samples of each channel were chased; or the number of the refusal.
+//
+// IN may have 262,144 bytes at most; a longer one is `refused 1`. A byte holds less than two samples in every
+// format, so 524,288 samples are room enough. A block has fewer bytes than samples, so as many bytes are room
+// enough for the blocks, and 4,096 more for the last one's fill and the rest of the file.
+use files::Input;
+use files::Said;
+use wave::Coded;
+use wave::Decoded;
+use wave::Encoded;
+use wave::Format;
+use wave::Frames;
+use wave::Record;
+use wave::Written;
+
+// The chased samples of one channel.
+fn chased(name: &[u8], count: Frames) {
+    show::field(name, count.0 as u64);
+    show::line();
+}
+
+// Puts a file where it is to be, and says what it holds.
+fn keep(frames: Frames, told: Coded, file: &[u8]) {
+    if !files::write(b"wave_encode", 2, file) {
+        return;
+    }
+    listing::frames(frames);
+    files::size(file);
+    let left = told.left;
+    let right = told.right;
+    chased(b"chased left ", left);
+    chased(b"chased right ", right);
+}
+
+// Writes the file of a record and its blocks.
+fn write(made: Record, told: Coded, blocks: &[u8]) {
+    let mut out = files::new_room();
+    match wave::write(made, blocks, &mut out) {
+        Written::Bytes(size) => keep(made.frames, told, riff::bytes_from(&out, 0, size.0)),
+        Written::Refused(refusal) => listing::refused(refusal),
+    }
+}
+
+// Encodes a sound.
+fn encode(format: Format, frames: Frames, sound: &[i16], align: u16) {
+    let mut out = files::new_room();
+    match wave::encode(sound, format.channels, align, &mut out) {
+        Encoded::Blocks(told) => write(
+            wave::record_of(format.channels, format.rate, align, frames),
+            told,
+            riff::bytes_from(&out, 0, told.bytes.0),
+        ),
+        Encoded::Refused(refusal) => listing::refused(refusal),
+    }
+}
+
+// The samples of the frames at the start of a lent buffer.
+fn heard(sound: &[i16], frames: Frames, channels: u16) -> &[i16] {
+    let n = files::samples_in(frames, channels);
+    if n <= sound.len() {
+        return &sound[..n];
+    }
+    sound
+}
+
+// Makes the copy of a file.
+fn copy(file: &[u8], align: u16) {
+    let reading = wave::read(file);
+    let made = reading.made;
+    let format = made.format;
+    let mut sound = files::sound_room();
+    match wave::decode(file, &mut sound) {
+        Decoded::Frames(frames) => encode(
+            format,
+            frames,
+            heard(&sound, frames, format.channels),
+            align,
+        ),
+        Decoded::Refused(refusal) => listing::refused(refusal),
+    }
+}
+
+// Reads the file to be copied.
+fn start(align: u16) {
+    let mut buffer = files::file_room();
+    let Input::Bytes(n) = files::read(b"wave_encode", 1, &mut buffer) else {
+        return;
+    };
+    if files::too_long(n) {
+        return;
+    }
+    copy(riff::bytes_from(&buffer, 0, n), align);
+}
+
+fn main() {
+    if !files::called(4, b"wave_encode IN OUT ALIGN") {
+        return;
+    }
+    // it is at most 65,535, so nothing of it is cut off
+    let Said::Number(align) = files::number(b"wave_encode", 3, b"ALIGN", 65535) else {
+        return;
+    };
+    start((align % 65536) as u16);
+}
