@@ -36,9 +36,9 @@ def note(period):
 def wave(samples):
     """The WAVE file of a sound: a format of 16 bytes, and the sound."""
     sound = struct.pack(f'<{len(samples)}h', *samples)
-    head = struct.pack('<4sI4s4sIHHIIHH4sI', b'RIFF', 36 + len(sound), b'WAVE', b'fmt ', 16, 1, 1, RATE, 2 * RATE, 2, 16,
-                       b'data', len(sound))
-    return head + sound
+    form = struct.pack('<4sIHHIIHH', b'fmt ', 16, 1, 1, RATE, 2 * RATE, 2, 16)
+    body = b'WAVE' + form + struct.pack('<4sI', b'data', len(sound)) + sound
+    return struct.pack('<4sI', b'RIFF', len(body)) + body
 
 
 def files():

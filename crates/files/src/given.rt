@@ -8,7 +8,7 @@ pub enum Said {
     Trouble,
 }
 
-// Whether a program is called with so many words; if not, it says how it is called.
+// Whether a program is called with so many words, its own name among them; if not, it says how it is called.
 pub fn called(count: usize, usage: &[u8]) -> bool {
     if os::arg_count() == count {
         return true;

@@ -7,7 +7,6 @@ mod rooms;
 mod trouble;
 mod writing;
 
-pub use answers::samples_in;
 pub use answers::size;
 pub use answers::too_long;
 pub use given::Said;
@@ -18,5 +17,6 @@ pub use reading::read;
 pub use rooms::file_room;
 pub use rooms::long_room;
 pub use rooms::new_room;
+pub use rooms::samples_in;
 pub use rooms::sound_room;
 pub use writing::write;

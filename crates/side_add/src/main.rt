@@ -1,9 +1,10 @@
 // side_add SIDE SONG NUMBER LIMIT OUT: adds a song under its donation number to a side that may have LIMIT
-// frames, and writes the new side. OUT may be SIDE itself: both files are read before it is written. Prints the
-// number and how many bytes the new side has; or the number of the refusal, 18 where the song is on the side.
+// frames, and writes the new side. OUT may be SIDE itself: all is read before anything is written. Prints the
+// number and how many bytes the new side has; or `refused` and the number of the refusal, 18 where the song is
+// on the side already, and then it writes nothing.
 //
-// SIDE and SONG may have 262,144 bytes each at most; a longer one is `refused 1`. The new side has less than
-// 4,096 bytes more than both together.
+// SIDE and SONG may have 262,144 bytes each at most; a longer one is `refused 1`. No such files lack room, but
+// a new side may be too long to be read again. All is held on the stack, 1.1 MB.
 use files::Input;
 use files::Said;
 use wave::Added;
@@ -29,7 +30,7 @@ fn add(side: &[u8], song: &[u8], number: Donation, limit: Frames) {
     }
 }
 
-// Adds the song that is named to a side of so many bytes.
+// Reads the song, and adds it to a side that was read.
 fn add_to(side: &[u8], number: Donation, limit: Frames) {
     let mut buffer = files::file_room();
     let Input::Bytes(n) = files::read(b"side_add", 2, &mut buffer) else {

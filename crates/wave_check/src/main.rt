@@ -1,5 +1,6 @@
-// wave_check FILE: says whether a WAVE file is accepted, or the number of its refusal. The file may have
-// 262,144 bytes at most; a longer one is `refused 1`.
+// wave_check FILE: prints `accepted`, or `refused` and the number of the refusal.
+//
+// FILE may have 262,144 bytes at most; a longer one is `refused 1`. It is held on the stack.
 use files::Input;
 use wave::Verdict;
 

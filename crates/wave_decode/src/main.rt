@@ -1,9 +1,9 @@
 // wave_decode IN OUT: decodes a WAVE file, and writes its sound as a WAVE file of 16-bit PCM with the same
-// channels, rate, cues and playlist. Prints how many frames it has and how many bytes the new file, or the
-// number of the refusal.
+// channels, rate, cues and playlist. Prints how many frames it has and how many bytes the new file has; or
+// `refused` and the number of the refusal, and then it writes nothing.
 //
-// IN may have 262,144 bytes at most; a longer one is `refused 1`. A byte holds less than two samples in every
-// format, so 524,288 samples are room enough, and twice as many bytes and 4,096 for a file with full tables.
+// IN may have 262,144 bytes at most; a longer one is `refused 1`. No such file lacks room. All is held on the
+// stack, 3.4 MB.
 use files::Input;
 use wave::Decoded;
 use wave::Format;

@@ -1,10 +1,10 @@
 // wave_encode IN OUT ALIGN: makes the approval copy that a donor gets. Decodes a WAVE file, encodes its sound
 // to IMA blocks of ALIGN bytes, and writes them as a WAVE file. Prints how many frames it has, how many bytes
-// the new file, and how many samples of each channel were chased; or the number of the refusal.
+// the new file has, and how many samples of each channel were chased; or `refused` and the number of the
+// refusal, and then it writes nothing.
 //
-// IN may have 262,144 bytes at most; a longer one is `refused 1`. A byte holds less than two samples in every
-// format, so 524,288 samples are room enough. A block has fewer bytes than samples, so as many bytes are room
-// enough for the blocks, and 4,096 more for the last one's fill and the rest of the file.
+// IN may have 262,144 bytes at most; a longer one is `refused 1`. No such file lacks room. All is held on the
+// stack, 2.4 MB.
 use files::Input;
 use files::Said;
 use wave::Coded;
@@ -98,9 +98,9 @@ fn main() {
     if !files::called(4, b"wave_encode IN OUT ALIGN") {
         return;
     }
-    // it is at most 65,535, so nothing of it is cut off
     let Said::Number(align) = files::number(b"wave_encode", 3, b"ALIGN", 65535) else {
         return;
     };
+    // It is at most 65,535, so nothing of it is cut off.
     start((align % 65536) as u16);
 }
