@@ -370,6 +370,9 @@ def wave_builds():
         words = ['check', folder / 'song.wav']
         expect('a build that fails', run([folder / 'wave', *words], '/', **known),
                (74, '', f'{building}no proof\nwave: wave_check could not be built\n'))
+        builder.write_text('#!/bin/sh\necho proved\n')
+        expect('a build of nothing', run([folder / 'wave', *words], '/', **known),
+               (74, '', f'{building}wave: wave_check is proved, but not there: remove {folder}/target and try again\n'))
         made = f'mkdir -p target/bin && cp "{ROOT}/target/bin/wave_check" target/bin'
         builder.write_text(f'#!/bin/sh\necho proved\n[ "$*" = "check wave_check" ] && {made}\n')
         expect('a build', run([folder / 'wave', *words], '/', **known), (0, 'accepted\n', building))
