@@ -253,6 +253,8 @@ def not_written():
                'taken.wav': 'make taken.wav.part: File exists', 'link.wav': 'make link.wav.part: File exists',
                'folder': 'write folder: Is a directory', '': 'write : No such file or directory',
                'n' * 252: f'make {"n" * 252}.part: File name too long', 'n' * 5000: 'write a file: File name too long'}
+    if not os.access('/', os.W_OK):
+        reasons['/new.wav'] = 'make /new.wav.part: Permission denied'
     for name, reason in reasons.items():
         trouble([*DECODE, 'song.wav', name], f'wave_decode: cannot {reason}')
         trouble([*ENCODE, 'song.wav', name, 256], f'wave_encode: cannot {reason}')
