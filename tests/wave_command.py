@@ -14,6 +14,7 @@ import shutil
 import subprocess
 import sys
 import tempfile
+import textwrap
 
 import other_programs
 import other_songs
@@ -416,16 +417,23 @@ def demonstration():
         _, call, *lines = part.splitlines()
         wanted = told(call.split()[2:], files)
         expect(call, lines, wanted + meaning(wanted)[0].splitlines())
-    before = set(os.listdir(tempfile.gettempdir()))
-    expect('./wave demo', run([*WAVE, 'demo'], '/'), (0, story, ''))
-    left = set(os.listdir(tempfile.gettempdir())) - before
-    expect('what ./wave demo leaves behind', [name for name in left if name.startswith('tmp.')], [])
+    with tempfile.TemporaryDirectory() as room:
+        expect('./wave demo', run([*WAVE, 'demo'], '/', env={**os.environ, 'TMPDIR': room}), (0, story, ''))
+        expect('what ./wave demo leaves behind', os.listdir(room), [])
+
+
+def readme():
+    """README.md shows what ./wave really says."""
+    text = (ROOT / 'README.md').read_text()
+    for words in ('demo', 'help'):
+        said = f'$ ./wave {words}\n' + run([*WAVE, words], '/')[1]
+        expect(f'whether README.md has what ./wave {words} says', textwrap.indent(said, '    ') in text, True)
 
 
 def main():
     for part in (on_other_files, on_kept_sides, at_the_limit, above_the_limit, numbers, places, called_wrongly,
                  not_read, not_written, full_disk, no_numbers, wave_commands, wave_refusals, wave_trouble,
-                 wave_called_wrongly, wave_builds, demonstration):
+                 wave_called_wrongly, wave_builds, demonstration, readme):
         part()
     for line in WRONG[:20]:
         print(f'tests/wave_command.py: {line}')

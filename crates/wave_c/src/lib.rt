@@ -1,7 +1,5 @@
 // The C interface of the library: its operations over numbers and lent buffers, as include/tronalhet.h
 // declares them. A refusal is its number, and 0 is success.
-use formats::Format;
-use ima::Coded;
 use riff::Spot;
 use rules::Record;
 use units::Donation;
@@ -14,7 +12,6 @@ use wave::Encoded;
 use wave::Written;
 ghost use mathlib.Core.Path.{_≡_};
 ghost use mathlib.Core.List.{[], _∷_};
-ghost use lib.Dec.{leb};
 ghost use lib.ListN.{length};
 ghost use Rattle.units.specs.Refusals.{numberOf, verdictNumber};
 ghost use Rattle.reader.specs.Content.{reading, soundSpot, soundIn};

@@ -13,7 +13,7 @@ ghost use mathlib.Core.Path.{_≡_};
 ghost use mathlib.Core.Bool.{true};
 ghost use mathlib.Core.List.{_++_};
 ghost use Prim.Native.Nat.{_+_, _*_, _≤_, _<_};
-ghost use lib.ListN.{length, getD};
+ghost use lib.ListN.{length};
 ghost use Rattle.little.specs.Writing.{Put, front};
 ghost use Rattle.tables.specs.Bytes.{entryBytes};
 ghost use Rattle.words.specs.Words.{headWords, cueWords, playWords, recordWords, fieldsFit, formatFrom, cueFrom, cuesFrom, playFrom, playsFrom, recordFrom};

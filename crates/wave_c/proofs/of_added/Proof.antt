@@ -7,10 +7,6 @@ use Rattle.wave_c.proofs.of_added.Tie as tie
 pub of-added-spec : {M : Type 1} → statement M
 of-added-spec =
     tie.close
-    (tie.spec
-    (λ c. search (needs, answering))
-    (λ c κs. search (needs, answering))
-    (λ c. search (needs, answering))
-    (λ c κs. search (needs, answering))
-    (λ c. search (needs, answering))
+    (tie.spec (λ c. search (needs, answering)) (λ c κs. search (needs, answering))
+    (λ c. search (needs, answering)) (λ c κs. search (needs, answering)) (λ c. search (needs, answering))
     (λ c. search (needs, answering)))

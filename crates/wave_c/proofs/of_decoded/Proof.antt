@@ -7,11 +7,6 @@ use Rattle.wave_c.proofs.of_decoded.Tie as tie
 pub of-decoded-spec : {M : Type 1} → statement M
 of-decoded-spec =
     tie.close
-    (tie.spec
-    (λ c. search (needs, answering))
-    (λ c. search (needs, answering))
-    (λ c κs. search (needs, answering))
-    (λ c. search (needs, answering))
-    (λ c κs. search (needs, answering))
-    (λ c. search (needs, answering))
-    (λ c. search (needs, answering)))
+    (tie.spec (λ c. search (needs, answering)) (λ c. search (needs, answering))
+    (λ c κs. search (needs, answering)) (λ c. search (needs, answering)) (λ c κs. search (needs, answering))
+    (λ c. search (needs, answering)) (λ c. search (needs, answering)))

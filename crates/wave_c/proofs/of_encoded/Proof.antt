@@ -7,9 +7,5 @@ use Rattle.wave_c.proofs.of_encoded.Tie as tie
 pub of-encoded-spec : {M : Type 1} → statement M
 of-encoded-spec =
     tie.close
-    (tie.spec
-    (λ c. search (needs, answering))
-    (λ c. search (needs, answering))
-    (λ c κs. search (needs, answering))
-    (λ c. search (needs, answering))
-    (λ c. search (needs, answering)))
+    (tie.spec (λ c. search (needs, answering)) (λ c. search (needs, answering))
+    (λ c κs. search (needs, answering)) (λ c. search (needs, answering)) (λ c. search (needs, answering)))

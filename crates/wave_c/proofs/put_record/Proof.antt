@@ -7,9 +7,5 @@ use Rattle.wave_c.proofs.put_record.Tie as tie
 pub put-record-spec : {M : Type 1} → statement M
 put-record-spec =
     tie.close
-    (tie.spec
-    (λ c κs. search (needs, rooming))
-    (λ c. search (needs, rooming))
-    (λ c κs. search (needs, rooming))
-    (λ c. search (needs, rooming))
-    (λ c. search (needs, rooming)))
+    (tie.spec (λ c κs. search (needs, rooming)) (λ c. search (needs, rooming)) (λ c κs. search (needs, rooming))
+    (λ c. search (needs, rooming)) (λ c. search (needs, rooming)))

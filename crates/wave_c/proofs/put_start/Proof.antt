@@ -7,13 +7,6 @@ use Rattle.wave_c.proofs.put_start.Tie as tie
 pub put-start-spec : {M : Type 1} → statement M
 put-start-spec =
     tie.close
-    (tie.spec
-    (λ c κs. search (needs, rooming))
-    (λ c. search (needs, rooming))
-    (λ c. search (needs, rooming))
-    (λ c κs. search (needs, rooming))
-    (λ c κs. search (needs, rooming))
-    (λ c. search (needs, rooming))
-    (λ c κs. search (needs, rooming))
-    (λ c. search (needs, rooming))
-    (λ c. search (needs, rooming)))
+    (tie.spec (λ c κs. search (needs, rooming)) (λ c. search (needs, rooming)) (λ c. search (needs, rooming))
+    (λ c κs. search (needs, rooming)) (λ c κs. search (needs, rooming)) (λ c. search (needs, rooming))
+    (λ c κs. search (needs, rooming)) (λ c. search (needs, rooming)) (λ c. search (needs, rooming)))

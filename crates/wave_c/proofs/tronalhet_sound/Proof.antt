@@ -7,12 +7,7 @@ use Rattle.wave_c.proofs.tronalhet_sound.Tie as tie
 pub tronalhet-sound-spec : {M : Type 1} → statement M
 tronalhet-sound-spec =
     tie.close
-    (tie.spec
-    (λ c κs. search (needs, reading-first))
-    (λ c. search (needs, reading-first))
-    (λ c κs. search (needs, reading-first))
-    (λ c. search (needs, reading-first))
-    (λ c κs. search (needs, reading-first))
-    (λ c. search (needs, reading-first))
-    (λ c. search (needs, reading-first))
-    (λ c. search (needs, reading-first)))
+    (tie.spec (λ c κs. search (needs, reading-first)) (λ c. search (needs, reading-first))
+    (λ c κs. search (needs, reading-first)) (λ c. search (needs, reading-first))
+    (λ c κs. search (needs, reading-first)) (λ c. search (needs, reading-first))
+    (λ c. search (needs, reading-first)) (λ c. search (needs, reading-first)))

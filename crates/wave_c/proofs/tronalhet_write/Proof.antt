@@ -7,12 +7,6 @@ use Rattle.wave_c.proofs.tronalhet_write.Tie as tie
 pub tronalhet-write-spec : {M : Type 1} → statement M
 tronalhet-write-spec =
     tie.close
-    (tie.spec
-    (λ c κs. search (needs, wording))
-    (λ c κs. search (needs, wording))
-    (λ c. search (needs, wording))
-    (λ c κs. search (needs, wording))
-    (λ c κs. search (needs, wording))
-    (λ c κs. search (needs, wording))
-    (λ c. search (needs, wording))
-    (λ c. search (needs, wording)))
+    (tie.spec (λ c κs. search (needs, wording)) (λ c κs. search (needs, wording)) (λ c. search (needs, wording))
+    (λ c κs. search (needs, wording)) (λ c κs. search (needs, wording)) (λ c κs. search (needs, wording))
+    (λ c. search (needs, wording)) (λ c. search (needs, wording)))

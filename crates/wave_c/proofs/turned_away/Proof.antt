@@ -7,6 +7,4 @@ use Rattle.wave_c.proofs.turned_away.Tie as tie
 pub turned-away-spec : {M : Type 1} → statement M
 turned-away-spec =
     tie.close
-    (tie.spec
-    (λ c κs. search (needs, answering))
-    (λ c. search (needs, answering)))
+    (tie.spec (λ c κs. search (needs, answering)) (λ c. search (needs, answering)))

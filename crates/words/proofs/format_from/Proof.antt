@@ -7,16 +7,7 @@ use Rattle.words.proofs.format_from.Tie as tie
 pub format-from-spec : {M : Type 1} → statement M
 format-from-spec =
     tie.close
-    (tie.spec
-    (λ c. search (needs, fitting))
-    (λ c κs. search (needs, fitting))
-    (λ c. search (needs, fitting))
-    (λ c κs. search (needs, fitting))
-    (λ c. search (needs, fitting))
-    (λ c. search (needs, fitting))
-    (λ c κs. search (needs, fitting))
-    (λ c. search (needs, fitting))
-    (λ c κs. search (needs, fitting))
-    (λ c. search (needs, fitting))
-    (λ c κs. search (needs, fitting))
-    (λ c. search (needs, saying)))
+    (tie.spec (λ c. search (needs, fitting)) (λ c κs. search (needs, fitting)) (λ c. search (needs, fitting))
+    (λ c κs. search (needs, fitting)) (λ c. search (needs, fitting)) (λ c. search (needs, fitting))
+    (λ c κs. search (needs, fitting)) (λ c. search (needs, fitting)) (λ c κs. search (needs, fitting))
+    (λ c. search (needs, fitting)) (λ c κs. search (needs, fitting)) (λ c. search (needs, saying)))

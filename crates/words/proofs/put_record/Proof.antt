@@ -7,10 +7,6 @@ use Rattle.words.proofs.put_record.Tie as tie
 pub put-record-spec : {M : Type 1} → statement M
 put-record-spec =
     tie.close
-    (tie.spec
-    (λ c κs. search (needs, record-putting))
-    (λ c. search (needs, record-putting))
-    (λ c κs. search (needs, record-putting))
-    (λ c κs. search (needs, record-putting))
-    (λ c. search (needs, record-putting))
-    (λ c. search (needs, record-putting)))
+    (tie.spec (λ c κs. search (needs, record-putting)) (λ c. search (needs, record-putting))
+    (λ c κs. search (needs, record-putting)) (λ c κs. search (needs, record-putting))
+    (λ c. search (needs, record-putting)) (λ c. search (needs, record-putting)))

@@ -7,8 +7,5 @@ use Rattle.words.proofs.put_tables.Tie as tie
 pub put-tables-spec : {M : Type 1} → statement M
 put-tables-spec =
     tie.close
-    (tie.spec
-    (λ c κs. search (needs, tables-putting))
-    (λ c κs. search (needs, tables-putting))
-    (λ c. search (needs, tables-putting))
-    (λ c. search (needs, tables-putting)))
+    (tie.spec (λ c κs. search (needs, tables-putting)) (λ c κs. search (needs, tables-putting))
+    (λ c. search (needs, tables-putting)) (λ c. search (needs, tables-putting)))

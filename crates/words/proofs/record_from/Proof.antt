@@ -7,11 +7,6 @@ use Rattle.words.proofs.record_from.Tie as tie
 pub record-from-spec : {M : Type 1} → statement M
 record-from-spec =
     tie.close
-    (tie.spec
-    (λ c. search (needs, saying))
-    (λ c κs. search (needs, saying))
-    (λ c. search (needs, saying))
-    (λ c κs. search (needs, saying))
-    (λ c κs. search (needs, saying))
-    (λ c. search (needs, saying))
+    (tie.spec (λ c. search (needs, saying)) (λ c κs. search (needs, saying)) (λ c. search (needs, saying))
+    (λ c κs. search (needs, saying)) (λ c κs. search (needs, saying)) (λ c. search (needs, saying))
     (λ c. search (needs, saying)))
