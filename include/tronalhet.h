@@ -1,11 +1,32 @@
 /* The C interface of Tronalhet, a library for WAVE files whose every function is proved.
  *
  * Each pair of a pointer and a size_t is a lent buffer and how many elements it has; with 0 elements
- * the pointer may be null. Buffers that are lent together do not overlap.
+ * the pointer may be null. A buffer that is written to overlaps no other that is lent with it.
  *
- * Every function takes every input. A refusal is its number in the table of refusals, and 0 is success.
- * Where a function refuses, it has written nothing, and the other numbers that it answers are 0. Where
+ * Every function takes every input. A refusal is its number in the table below, and 0 is success. Where a
+ * function refuses, it has written nothing, and the other numbers that it answers are 0. Where
  * it succeeds, its output stands from the start of the lent buffer, and the rest of that is as it was.
+ *
+ *  1  length under 12 or over the limit, 1,073,741,824 bytes or 536,870,912 samples
+ *  2  not RIFF, or not WAVE
+ *  3  the RIFF size is odd, or is not that of the file
+ *  4  a chunk passes the end
+ *  5  a second fmt, data, fact, cue or plst
+ *  6  data before any fmt
+ *  7  a wavl list
+ *  8  no fmt or no data
+ *  9  channels, rate, tag or any rule of fmt not met; a song that does not suit the side
+ * 10  sound data not whole frames or blocks
+ * 11  fact absent where needed, too short, or its count wrong
+ * 12  cue table wrong
+ * 13  playlist wrong
+ * 14  lent output too small
+ * 15  an ADPCM block header holds an index out of range
+ * 16  song without frames, or its number listed with other sound
+ * 17  no place on the side
+ * 18  already listed, same sound: nothing to do
+ * 19  not a side
+ * 20  no such block
  *
  * Link with libwave_c.a, which is built for x86-64. */
 #ifndef TRONALHET_H

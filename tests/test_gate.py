@@ -17,7 +17,9 @@ class Gate(unittest.TestCase):
         (self.root / 'crates.txt').write_text('# side: a comment\nsong: io\n')
         for folder in ('src', 'specs', 'must-fail'):
             (self.root / 'crates/song' / folder).mkdir(parents=True)
-        (self.root / 'crates/song/src/lib.rt').touch()
+        (self.root / 'crates/song/src/lib.rt').write_text(
+            'pub fn add(n: u8) -> u8 {\n    n + 1\n}\n\nfn find(n: u8) -> u8 {\n    n\n}\n\npub fn all() -> u8 {\n    most(find(2))\n}\n\n'
+            'fn most(n: u8) -> u8 {\n    n\n}\n')
         (self.root / 'crates/song/specs/Song.antt').touch()
         self.write('lost', 'add', 'find')
         self.write('moved', 'eleven')
@@ -26,7 +28,7 @@ class Gate(unittest.TestCase):
         self.refuse('moved', '/proofs/Demands.antt:3:1: error: `eleven`: `simp`: no rule')
 
     def write(self, label, *names):
-        lines = [f'# in {name}: a song is lost\nfile: src/lib.rt\nold: 1\nnew: 2\n' for name in names]
+        lines = [f'# in {name}: a song is lost\nfile: specs/Song.antt\nold: 1\nnew: 2\n' for name in names]
         (self.root / f'crates/song/must-fail/{label}.edit').write_text(''.join(lines))
 
     def refuse(self, label, *errors):
@@ -63,6 +65,20 @@ class Gate(unittest.TestCase):
     def test_two_wrong_programs_in_one_place(self):
         self.write('moved', 'eleven', 'eleven')
         self.assertIn('moved.edit has two wrong programs in one place', self.said('layout'))
+
+    def test_wrong_programs_of_which_one_calls_the_other(self):
+        self.write('moved', 'find', 'all')
+        self.assertIn('moved.edit has wrong programs in all and in find, which it calls', self.said('layout'))
+
+    def test_a_wrong_program_in_another_function(self):
+        text = '# in find: a song is lost\nfile: src/lib.rt\nold:     n + 1\nnew:     n\n'
+        (self.root / 'crates/song/must-fail/moved.edit').write_text(text)
+        self.assertIn('moved.edit says find, and replaces what stands in add', self.said('layout'))
+
+    def test_more_wrong_programs_are_looked_at_too(self):
+        (self.root / 'crates/song/must-fail-more').mkdir()
+        (self.root / 'crates/song/must-fail-more/lost.edti').touch()
+        self.assertIn('must-fail-more/lost.edti is no edit', self.said('layout'))
 
     def test_a_wrong_program_that_only_misfits(self):
         self.refuse('lost', '/proofs/add/Proof.antt:3:1: error: `add-spec`: this λ has 2 binders, but its type has room for only 1',
