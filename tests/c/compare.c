@@ -10,7 +10,7 @@
 #include <stdlib.h>
 #include <string.h>
 
-enum { DEFAULT_COUNT = 100000, DEFAULT_SEED = 1992, GUARD = 64, REFUSALS = 21 };
+enum { DEFAULT_COUNT = 400000, DEFAULT_SEED = 1992, GUARD = 64, REFUSALS = 21 };
 
 static const struct functions library = {"library",        tronalhet_read,   tronalhet_sound,
                                          tronalhet_write,  tronalhet_decode, tronalhet_decode_block,
