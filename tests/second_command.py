@@ -13,9 +13,9 @@ import second_writer
 from second_reader import Refused, demand
 from second_writer import Record
 
-# The most bytes of a file that the programs take.
+# The most bytes of a file that the programs take, and of a side that is written.
 LIMIT = 262144
-# More samples or bytes than any of them needs.
+# More samples or bytes than decoding and encoding need.
 ROOM = second_writer.LIMIT
 
 
@@ -59,7 +59,7 @@ def encode(file, align):
 
 def add(side, song, number, limit):
     """What `side_add SIDE SONG NUMBER LIMIT OUT` says and writes."""
-    kind, made = second_side.add(side, song, number, limit, ROOM)
+    kind, made = second_side.add(side, song, number, limit, LIMIT)
     demand(kind == 'bytes', made)
     return [f'added {number}', f'bytes {len(made)}'], made
 

@@ -164,7 +164,7 @@ def most_samples():
 
 
 def at_the_limit():
-    """No file within the limit lacks room; half of the stack that programs usually have is enough."""
+    """Decoding and encoding never lack room; half of the stack that programs usually have is enough."""
     stack = limited(resource.RLIMIT_STACK, 4 << 20)
     files = {'most samples': fullest(*most_samples()), 'Microsoft': fullest(2, 2, 1024), '8 bits': pcm(LIMIT),
              '16 bits': pcm(LIMIT, 16), '64 cues': pcm(LIMIT, 16, [(name, 3 * name, name) for name in range(64)])}
@@ -175,11 +175,23 @@ def at_the_limit():
     for label, align in (('most samples', 8), ('16 bits', 4096)):
         does(f'encode {label} by {align}', [*ENCODE, 'file.wav', 'new.wav', align], {'file.wav': files[label]},
              answer(second_command.encode, files[label], align), **stack)
-    side = second_side.add(EMPTY, pcm(LIMIT - 60, 16), 1, LIMIT, second_writer.LIMIT)[1]
-    expect('the bytes of a side as long as it may be', len(side), LIMIT)
-    song = files['16 bits']
-    does('add a long song to a long side', [*ADD, 'side.wav', 'song.wav', 2, LIMIT, 'new.wav'],
-         {'side.wav': side, 'song.wav': song}, answer(second_command.add, side, song, 2, LIMIT), **stack)
+
+
+def sides_at_the_limit():
+    """A new side may be as long as a file that is read; one that is two bytes longer is 14, and the old side stays."""
+    stack = limited(resource.RLIMIT_STACK, 4 << 20)
+    half = answer(second_command.add, EMPTY, pcm(LIMIT // 2, 16), 1, LIMIT)[1]
+    # Beside its sound a song has 60 bytes where it is the first, and 36 where it is not; its file has 44.
+    for label, side, size in (('an empty side', EMPTY, LIMIT - 60), ('half a side', half, LIMIT + 8 - len(half))):
+        for more, said in ((0, ['added 2', f'bytes {LIMIT}']), (2, ['refused 14'])):
+            song = pcm(size + more, 16)
+            answered = answer(second_command.add, side, song, 2, LIMIT)
+            expect(f'{label} and {more} bytes more, by the second way', answered[0], said)
+            does(f'add to {label} and {more} bytes more', [*ADD, 'side.wav', 'song.wav', 2, LIMIT, 'side.wav'],
+                 {'side.wav': side, 'song.wav': song}, answered, out='side.wav', **stack)
+    full = answer(second_command.add, EMPTY, pcm(LIMIT - 60, 16), 1, LIMIT)[1]
+    does('add to a full side', [*ADD, 'side.wav', 'song.wav', 2, LIMIT, 'side.wav'],
+         {'side.wav': full, 'song.wav': pcm(LIMIT, 16)}, (['refused 14'], None), **stack)
 
 
 def above_the_limit():
@@ -431,8 +443,8 @@ def readme():
 
 
 def main():
-    for part in (on_other_files, on_kept_sides, at_the_limit, above_the_limit, numbers, places, called_wrongly,
-                 not_read, not_written, full_disk, no_numbers, wave_commands, wave_refusals, wave_trouble,
+    for part in (on_other_files, on_kept_sides, at_the_limit, sides_at_the_limit, above_the_limit, numbers, places,
+                 called_wrongly, not_read, not_written, full_disk, no_numbers, wave_commands, wave_refusals, wave_trouble,
                  wave_called_wrongly, wave_builds, demonstration, readme):
         part()
     for line in WRONG[:20]:

@@ -18,5 +18,6 @@ pub use rooms::file_room;
 pub use rooms::long_room;
 pub use rooms::new_room;
 pub use rooms::samples_in;
+pub use rooms::side_room;
 pub use rooms::sound_room;
 pub use writing::write;

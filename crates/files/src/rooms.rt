@@ -22,8 +22,14 @@ pub fn sound_room() -> [i16; 524288]
     [0; 524288]
 }
 
-// Room for two such files in one, with 4,096 bytes for its tables. The blocks of such a sound fit too, as a
-// block has at most eight bytes for nine samples.
+// Room for a new side: a longer one could not be read again.
+pub fn side_room() -> [u8; 262144]
+    ensures { λ r. ⌜ 262144 ≡ length r ⌝ }
+{
+    [0; 262144]
+}
+
+// Room for the blocks of such a sound, and for their file: a block has at most eight bytes for nine samples.
 pub fn new_room() -> [u8; 528384]
     ensures { λ r. ⌜ 528384 ≡ length r ⌝ }
 {

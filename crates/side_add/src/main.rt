@@ -3,8 +3,8 @@
 // number and how many bytes the new side has; or `refused` and the number of the refusal, 18 where the song is
 // on the side already, and then it writes nothing.
 //
-// SIDE and SONG may have 262,144 bytes each at most; a longer one is `refused 1`. No such files lack room, but
-// a new side may be too long to be read again. All is held on the stack, 1.1 MB.
+// SIDE and SONG may have 262,144 bytes each at most; a longer one is `refused 1`. So may the new side, which is
+// to be read again; a new side longer than that is `refused 14`. All is held on the stack, 0.8 MB.
 use files::Input;
 use files::Said;
 use wave::Added;
@@ -23,7 +23,7 @@ fn keep(number: Donation, file: &[u8]) {
 
 // Adds a song to a side.
 fn add(side: &[u8], song: &[u8], number: Donation, limit: Frames) {
-    let mut out = files::new_room();
+    let mut out = files::side_room();
     match wave::add(side, song, number, limit, &mut out) {
         Added::Bytes(size) => keep(number, riff::bytes_from(&out, 0, size.0)),
         Added::Refused(refusal) => listing::refused(refusal),
