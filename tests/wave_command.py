@@ -11,10 +11,13 @@ import pathlib
 import random
 import resource
 import shutil
+import signal
+import socket
 import subprocess
 import sys
 import tempfile
 import textwrap
+import time
 
 import other_programs
 import other_songs
@@ -65,12 +68,20 @@ def kept(folder):
             else path.read_bytes() if path.is_file() else None for path in folder.rglob('*')}
 
 
+def put(path, content):
+    """Makes a file of bytes, or a link to where a text says."""
+    if isinstance(content, str):
+        path.symlink_to(content)
+    else:
+        path.write_bytes(content)
+
+
 def tried(label, words, files, wanted, changed, **options):
     """Runs a program in a folder with these files: it must answer what is wanted, and change nothing else there."""
     with tempfile.TemporaryDirectory() as name:
         folder = pathlib.Path(name)
         for file, content in files.items():
-            (folder / file).write_bytes(content)
+            put(folder / file, content)
         (folder / 'folder').mkdir()
         (folder / 'link.wav.part').symlink_to('/dev/full')
         after = {**kept(folder), **changed}
@@ -275,7 +286,11 @@ def not_written():
 
 
 def full_disk():
-    """A write that fails after a part of the bytes leaves nothing, also where the file was there before."""
+    """A write that fails after a part of the bytes leaves nothing, also where the file was there before.
+
+    The signal SIGXFSZ, which would end a program at the limit, is ignored: Python does that, and the programs that it
+    starts here keep it so. Then the write fails as on a full disk.
+    """
     full, reason = limited(resource.RLIMIT_FSIZE, 500), 'File too large'
     trouble([*DECODE, 'song.wav', 'new.wav'], f'wave_decode: cannot write new.wav: {reason}', **full)
     trouble([*DECODE, 'song.wav', 'song.wav'], f'wave_decode: cannot write song.wav: {reason}', **full)
@@ -336,9 +351,10 @@ def wave_commands():
 
 def wave_refusals():
     """The refusals of adding, and an align that cannot be."""
-    files = {'side': answer(second_command.add, EMPTY, SONG, 7, 2000)[1], 'song': SONG,
+    files = {'side': answer(second_command.add, EMPTY, SONG, 7, 2000)[1], 'song': SONG, 'long': pcm(LIMIT, 16),
              'other': make.files()['evening-song.wav']}
-    for number, words in ((9, ['encode', 'song', 'new.wav', 6]), (16, ['add', 'side', 'other', 7, 9000, 'new.wav']),
+    for number, words in ((9, ['encode', 'song', 'new.wav', 6]), (14, ['add', 'side', 'long', 8, LIMIT, 'side']),
+                          (16, ['add', 'side', 'other', 7, 9000, 'new.wav']),
                           (17, ['add', 'side', 'song', 8, 3199, 'new.wav']),
                           (18, ['add', 'side', 'song', 7, 0, 'side']), (19, ['add', 'song', 'song', 7, 9, 'new.wav'])):
         wave_says(f'refusal {number}', words, files, ([f'refused {number}'], None))
@@ -353,10 +369,157 @@ def wave_trouble():
                         (['encode', 'song.wav', 'x', 'y'], f"wave_encode: ALIGN {number}, not 'y'"),
                         (['list', 'nowhere'], 'wave: cannot read nowhere: there is no such file'),
                         (['list', 'folder'], 'wave: cannot read folder: it is a folder'),
+                        (['add', 'side.wav', 'song.wav', 1, 9999, 'nowhere/x'],
+                         'side_add: cannot make nowhere/x.part: No such file or directory'),
+                        (['add', 'side.wav', 'song.wav', 1, 9999, 'side.wav/x'],
+                         'side_add: cannot make side.wav/x.part: Not a directory'),
                         (['decode', 'song.wav', 'folder'], 'wave: cannot write folder: it is there, and is no file'),
                         (['add', 'side.wav', 'song.wav', 1, 9999, '/dev/null'],
                          'wave: cannot write /dev/null: it is there, and is no file')):
         trouble([*WAVE, *words], said, 74)
+
+
+def wave_links():
+    """Where OUT is a link, the file that it leads to is written, be it there or not, and the link stays."""
+    decoded, added = answer(second_command.decode, SONG), answer(second_command.add, EMPTY, SONG, 7, 2000)
+    files = {'song.wav': SONG, 'side.wav': EMPTY, '-old.wav': b'old', 'to old': 'second link',
+             'second link': '-old.wav', 'to new': 'folder/new.wav', 'to side': 'side.wav',
+             'nowhere': 'no folder/new.wav', 'loop': 'loop'}
+    for link, file in (('to old', '-old.wav'), ('to new', 'folder/new.wav')):
+        wave_says(f'decode to a link {link}', ['decode', 'song.wav', link], files, decoded, file)
+    wave_says('add by a link', ['add', 'to side', 'song.wav', 7, 2000, 'to side'], files, added, 'side.wav')
+    for link in ('nowhere', 'loop'):
+        said = f'wave: cannot write {link}: it is a link that leads nowhere\n'
+        tried(f'./wave, a link {link}', [*WAVE, 'decode', 'song.wav', link], files, (74, '', said), {})
+
+
+def wave_same_file():
+    """OUT that is IN or SONG, also by another name or a link, is not written."""
+    for words, name, read in ((['decode', 'song.wav', 'song.wav'], 'IN', 'song.wav'),
+                              (['encode', './song.wav', 'song.wav', 256], 'IN', './song.wav'),
+                              (['add', 'side.wav', 'song.wav', 7, 2000, './song.wav'], 'SONG', 'song.wav'),
+                              (['add', 'side.wav', 'side.wav', 7, 2000, 'side.wav'], 'SONG', 'side.wav')):
+        out = words[-1] if words[0] == 'add' else words[2]
+        trouble([*WAVE, *words], f'wave: OUT would replace {name}: {out} and {read} are the same file', 74)
+    tried('./wave, OUT is a link to IN', [*WAVE, 'decode', 'song', 'link'], {'song': SONG, 'link': 'song'},
+          (74, '', 'wave: OUT would replace IN: link and song are the same file\n'), {})
+
+
+def wave_part():
+    """A part that is there, also as a link that leads nowhere, is told before the program runs."""
+    said = 'is there: another run is writing it, or one was cut off; if none is running, remove it\n'
+    for content in (b'', 'nowhere'):
+        files = {'song': SONG, 'side': EMPTY, 'new.part': content}
+        for words in (['decode', 'song', 'new'], ['encode', 'song', 'new', 256],
+                      ['add', 'side', 'song', 7, 2000, 'new']):
+            tried(f'./wave {words[0]}, a part', [*WAVE, *words], files, (74, '', f'wave: new.part {said}'), {})
+
+
+def wave_not_writable():
+    """A file that may not be written stays."""
+    if os.getuid() == 0:
+        return
+    files = {'song': SONG, 'side': EMPTY, 'old': b'old'}
+    with tempfile.TemporaryDirectory() as name:
+        folder = pathlib.Path(name)
+        for file, content in files.items():
+            put(folder / file, content)
+            (folder / file).chmod(0o444)
+        for words in (['decode', 'song', 'old'], ['encode', 'song', 'old', 256],
+                      ['add', 'side', 'song', 7, 2000, 'old'], ['add', 'side', 'song', 7, 2000, 'side']):
+            out = words[2] if words[0] != 'add' else words[-1]
+            expect(f'./wave {words}', run([*WAVE, *words], folder),
+                   (74, '', f'wave: cannot write {out}: it may not be written\n'))
+        expect('files that may not be written', kept(folder), files)
+
+
+def wave_not_shown():
+    """Standard output that cannot be written is trouble; what was done is told, and stays."""
+    files = {'song': SONG, 'side': EMPTY}
+    added = answer(second_command.add, EMPTY, SONG, 7, 2000)[1]
+    for place in ('>/dev/full', '>&-'):
+        for words, answered, changed in ((['check', 'song'], ': accepted', {}), (['help'], '', {}), (['demo'], '', {}),
+                                         (['encode', 'song', 'new', 6], ': refused 9', {}),
+                                         (['add', 'side', 'song', 7, 2000, 'side'], ': added 7', {'side': added})):
+            tried(f'./wave {words} {place}', ['bash', '-c', f'"$@" {place}', 'bash', *WAVE, *words], files,
+                  (74, '', f'wave: cannot write to standard output{answered}\n'), changed)
+
+
+def wave_socket():
+    """A socket is there and may be read, but cannot be opened."""
+    with tempfile.TemporaryDirectory() as folder, socket.socket(socket.AF_UNIX) as end:
+        end.bind(f'{folder}/socket')
+        expect('./wave list of a socket', run([*WAVE, 'list', 'socket'], folder),
+               (74, '', 'wave: cannot read socket: it cannot be opened\n'))
+
+
+# ---- two adds at a time
+
+def start(words, folder):
+    """Starts ./wave, in a group of processes that can be killed as one."""
+    return subprocess.Popen([str(word) for word in [*WAVE, *words]], cwd=folder, stdin=subprocess.DEVNULL, text=True,
+                            stdout=subprocess.PIPE, stderr=subprocess.PIPE, start_new_session=True)
+
+
+def opened(pipe):
+    """The writing end of a named pipe, as soon as a program reads it; it waits for that half a minute."""
+    for _ in range(3000):
+        try:
+            return os.open(pipe, os.O_WRONLY | os.O_NONBLOCK)
+        except OSError:
+            time.sleep(0.01)
+    raise TimeoutError(f'no program reads {pipe}')
+
+
+def overlapping(label, out, killed, wanted):
+    """An add has read the side and waits for its song, and is killed so; a second add starts, and then the song comes.
+
+    The second knows the side by another path. What is wanted: what the two say, whether the second says that it waits,
+    and the songs of the side in the end.
+    """
+    with tempfile.TemporaryDirectory() as name:
+        folder = pathlib.Path(name)
+        (folder / '-sides').mkdir()
+        put(folder / out, EMPTY)
+        put(folder / 'song.wav', make.files()['harbour-song.wav'])
+        os.mkfifo(folder / 'pipe')
+        with start(['add', out, 'pipe', 1, 40000, out], folder) as first:
+            pipe = opened(folder / 'pipe')
+            killed(first)
+            with start(['add', folder / out, folder / 'song.wav', 2, 40000, folder / out], '/') as second:
+                # It says that it waits, or ends without a word; if it did not wait, it would soon be done.
+                said = second.stderr.readline()
+                time.sleep(0.3)
+                try:
+                    os.write(pipe, SONG)
+                except BrokenPipeError:
+                    pass
+                os.close(pipe)
+                told = first.communicate(timeout=60)[0], second.communicate(timeout=60)[0]
+        waiting = f'wave: waiting for another add in {(folder / out).parent}/\n'
+        expect(f'{label}, what the adds say', (told, said), (wanted[0], waiting if wanted[1] else ''))
+        songs = [song.number for song in second_side.songs((folder / out).read_bytes())]
+        expect(f'{label}, the songs of the side', songs, wanted[2])
+        expect(f'{label}, the files', sorted(kept(folder)), sorted(['-sides', out, 'pipe', 'song.wav']))
+
+
+def two_adds():
+    """No song is lost: the second add waits for the first one, and for its program where ./wave alone is killed."""
+    both = 'added 1\nbytes 3304\n', 'added 2\nbytes 5740\n'
+    for out in ('side.wav', '-sides/side.wav'):
+        overlapping(f'two adds to {out}', out, lambda first: None, (both, True, [1, 2]))
+    overlapping('an add after ./wave was killed', 'side.wav', lambda first: first.kill(), (('', both[1]), True, [1, 2]))
+    overlapping('an add after one was killed whole', 'side.wav', lambda first: os.killpg(first.pid, signal.SIGKILL),
+                (('', 'added 2\nbytes 2504\n'), False, [2]))
+
+
+def no_flock():
+    """Without the lock no song is added."""
+    with tempfile.TemporaryDirectory() as name:
+        for word in ('bash', 'readlink', 'dirname', 'find', 'rt'):
+            (pathlib.Path(name) / word).symlink_to(shutil.which(word))
+        trouble([*WAVE, 'add', 'side.wav', 'song.wav', 7, 2000, 'new.wav'],
+                'wave: flock is missing, which keeps two adds apart: it is part of util-linux', 74, env={'PATH': name})
 
 
 def wave_called_wrongly():
@@ -368,11 +531,52 @@ def wave_called_wrongly():
         trouble([*WAVE, *words.split()], f'usage: ./wave {said}', 64)
     status, shown, said = run(WAVE, '/')
     expect('./wave', (status, shown.split(' FILE')[0], said), (0, 'usage: ./wave list', ''))
-    expect('./wave help', run([*WAVE, 'help'], '/'), (0, shown, ''))
+    for word in ('help', '--help', '-h'):
+        expect(f'./wave {word}', run([*WAVE, word], '/'), (0, shown, ''))
+
+
+def aged(path, seconds):
+    """Makes a file so many seconds old."""
+    then = time.time() - seconds
+    os.utime(path, (then, then))
+
+
+def on_newer_sources(folder, words, known, building):
+    """A program that is older than a source, or than a folder of them, is built again; not run if that fails."""
+    program, sources = folder / 'target' / 'bin' / 'wave_check', folder / 'crates' / 'files' / 'src'
+    sources.mkdir(parents=True)
+    parts = [sources / 'rooms.rt', sources, sources.parent, folder / 'crates', folder / 'crates.txt']
+    for file in (parts[0], parts[-1]):
+        file.touch()
+    for changed in parts:
+        for path, age in (*((part, 300) for part in parts), (program, 200), (changed, 100)):
+            aged(path, age)
+        for said in (building, ''):
+            expect(f'a newer {changed.name}', run([folder / 'wave', *words], '/', **known), (0, 'accepted\n', said))
+    aged(program, 200)
+    (folder / 'rt').write_text('#!/bin/sh\necho no proof\nexit 1\n')
+    expect('newer sources that fail', run([folder / 'wave', *words], '/', **known),
+           (74, '', f'{building}no proof\nwave: wave_check could not be built\n'))
+
+
+def built_without_lock():
+    """What a build starts does not hold the lock of an add."""
+    with tempfile.TemporaryDirectory() as name:
+        folder = pathlib.Path(name)
+        shutil.copy(ROOT / 'wave', folder)
+        (folder / 'sides').mkdir()
+        builder = folder / 'rt'
+        builder.write_text('#!/bin/sh\nls -l /proc/$$/fd >opened\nexit 1\n')
+        builder.chmod(0o755)
+        status, _, _ = run([folder / 'wave', 'add', 'a', 'b', 7, 2000, 'sides/new'], folder,
+                           env={**os.environ, 'PATH': f'{folder}:{os.environ["PATH"]}'})
+        held = [line for line in (folder / 'opened').read_text().splitlines() if line.endswith('/sides')]
+        expect('a build for add', (status, held), (74, []))
 
 
 def wave_builds():
-    """A program that is missing is built, with one line; what the build says is shown only where it fails."""
+    """A program that is missing, or older than a source, is built, with one line, and then not again; what the build
+    says is shown only where it fails."""
     with tempfile.TemporaryDirectory() as name:
         folder = pathlib.Path(name)
         shutil.copy(ROOT / 'wave', folder)
@@ -393,6 +597,7 @@ def wave_builds():
         expect('a build', run([folder / 'wave', *words], '/', **known), (0, 'accepted\n', building))
         (folder / 'link').symlink_to(folder / 'wave')
         expect('no build, by a link', run([folder / 'link', *words], '/', **known), (0, 'accepted\n', ''))
+        on_newer_sources(folder, words, known, building)
         if not shutil.which('rt', path='/usr/bin:/bin'):
             expect('no kit', run([folder / 'wave', *words], '/', env={'PATH': '/usr/bin:/bin'}),
                    (74, '', 'wave: the Rattle kit is missing: its command rt is not on the PATH\n'))
@@ -434,6 +639,16 @@ def demonstration():
         expect('what ./wave demo leaves behind', os.listdir(room), [])
 
 
+def asked_once():
+    """The demonstration looks once at each of its five programs, whether a source is newer."""
+    with tempfile.TemporaryDirectory() as name:
+        finder, log = pathlib.Path(name, 'find'), pathlib.Path(name, 'log')
+        finder.write_text(f'#!/bin/sh\necho asked >>{log}\nexec {shutil.which("find")} "$@"\n')
+        finder.chmod(0o755)
+        run([*WAVE, 'demo'], '/', env={**os.environ, 'PATH': f'{name}:{os.environ["PATH"]}'})
+        expect('how often ./wave demo looks for newer sources', log.read_text().count('asked'), 5)
+
+
 def readme():
     """README.md shows what ./wave really says."""
     text = (ROOT / 'README.md').read_text()
@@ -442,10 +657,18 @@ def readme():
         expect(f'whether README.md has what ./wave {words} says', textwrap.indent(said, '    ') in text, True)
 
 
+def settle():
+    """A program that a source is newer than is built here, so that no command below says so."""
+    subprocess.run([*WAVE, 'demo'], stdout=subprocess.DEVNULL, check=False)
+
+
 def main():
+    settle()
     for part in (on_other_files, on_kept_sides, at_the_limit, sides_at_the_limit, above_the_limit, numbers, places,
-                 called_wrongly, not_read, not_written, full_disk, no_numbers, wave_commands, wave_refusals, wave_trouble,
-                 wave_called_wrongly, wave_builds, demonstration, readme):
+                 called_wrongly, not_read, not_written, full_disk, no_numbers, wave_commands, wave_refusals,
+                 wave_trouble, wave_links, wave_same_file, wave_part, wave_not_writable, wave_not_shown, wave_socket,
+                 wave_called_wrongly, two_adds, no_flock, built_without_lock, wave_builds,
+                 demonstration, asked_once, readme):
         part()
     for line in WRONG[:20]:
         print(f'tests/wave_command.py: {line}')
