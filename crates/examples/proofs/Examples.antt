@@ -1,5 +1,4 @@
 -- The examples of document 01, by computing them. Assumes nothing.
-use mathlib.Core.Path.{refl}
 use Rattle.little.specs.Numbers.{numberIn, numberAt, bytesOf}
 use Rattle.samples.specs.Sound.{hold, signedOf, bitsOf, sampleAt, sampleBytes, eight}
 use Rattle.lists.specs.States.{through}

@@ -1,6 +1,6 @@
 -- Laws of the C interface, in the words of the code: answers as numbers, room, and words that are fine. Assumes nothing.
 use mathlib.Core.Path.{_≡_, refl, sym, ap, _∙_}
-use mathlib.Core.Bool.{Bool, true, false, not, cond, _&&_}
+use mathlib.Core.Bool.{Bool, true, false, not, cond}
 use mathlib.Core.List.{List, [], _∷_}
 use Prim.Native.Nat.{ℕ, _≤_, _<_}
 use native.Mathlib.Omega.{arith}
@@ -16,7 +16,7 @@ use Rattle.units.specs.declared.Refusal.{Refusal}
 use Rattle.units.specs.declared.Refusal.the-variants.{FormatWrong, OutputTooSmall}
 use Rattle.units.specs.declared.Verdict.{Verdict}
 use Rattle.units.specs.declared.Verdict.the-variants as verdict
-use Rattle.units.specs.Refusals.{numberOf, verdictNumber, demand}
+use Rattle.units.specs.Refusals.{numberOf, verdictNumber}
 use Rattle.lists.proofs.Laws.{and-both}
 use Rattle.riff.specs.declared.Spot.{Spot}
 use Rattle.riff.specs.Walk.{partOf}
