@@ -1,0 +1,70 @@
+//! What the command prints: lines for people, JSON for scripts.
+use crate::{eprint, TROUBLE};
+use std::fmt;
+use std::io::Write;
+
+/// A value of JSON.
+pub enum Json {
+    Number(u64),
+    Text(String),
+    List(Vec<Json>),
+    Object(Vec<(&'static str, Json)>),
+}
+
+impl fmt::Display for Json {
+    fn fmt(&self, out: &mut fmt::Formatter) -> fmt::Result {
+        match self {
+            Json::Number(number) => write!(out, "{number}"),
+            Json::Text(text) => quoted(out, text),
+            Json::List(list) => {
+                out.write_str("[")?;
+                for (place, value) in list.iter().enumerate() {
+                    write!(out, "{}{value}", if place > 0 { ", " } else { "" })?;
+                }
+                out.write_str("]")
+            }
+            Json::Object(fields) => {
+                out.write_str("{")?;
+                for (place, (name, value)) in fields.iter().enumerate() {
+                    write!(out, "{}\"{name}\": {value}", if place > 0 { ", " } else { "" })?;
+                }
+                out.write_str("}")
+            }
+        }
+    }
+}
+
+fn quoted(out: &mut fmt::Formatter, text: &str) -> fmt::Result {
+    out.write_str("\"")?;
+    for letter in text.chars() {
+        match letter {
+            '"' | '\\' => write!(out, "\\{letter}")?,
+            letter if letter < ' ' => write!(out, "\\u{:04x}", u32::from(letter))?,
+            letter => write!(out, "{letter}")?,
+        }
+    }
+    out.write_str("\"")
+}
+
+/// Prints to standard output, all at once. What is done is done: where it cannot be shown, standard error says it.
+pub fn print(name: &str, text: &str) -> u8 {
+    let mut out = std::io::stdout().lock();
+    if out.write_all(text.as_bytes()).and_then(|()| out.flush()).is_ok() {
+        return 0;
+    }
+    eprint(name, &format!("cannot write to standard output: {}", text.lines().next().unwrap_or_default()));
+    TROUBLE
+}
+
+#[cfg(test)]
+mod tests {
+    use super::*;
+
+    #[test]
+    fn json_is_escaped_and_nested() {
+        let text = Json::Text("a \"b\" \\ \n é".into());
+        let object =
+            Json::Object(vec![("list", Json::List(vec![Json::Number(1), text])), ("none", Json::List(vec![]))]);
+        assert_eq!(object.to_string(), r#"{"list": [1, "a \"b\" \\ \u000a é"], "none": []}"#);
+    }
+}
