@@ -57,38 +57,28 @@ fn one<'a>(about: String, answer: Answer) -> Box<dyn Iterator<Item = (String, An
 
 // ---- what is said
 
-/// Prints an answer; its exit status.
+/// Prints an answer, and then on standard error what it means; its exit status.
 fn say(name: &str, call: &Call, (about, answer): (String, Answer)) -> u8 {
-    let (mut lines, mut fields, status) = match answer {
-        Ok(Told { lines, fields }) => (lines, fields, 0),
-        Err(Stop::Trouble(what)) => {
-            eprint(name, &what);
-            (vec![], vec![("trouble", Json::Text(what))], TROUBLE)
-        }
+    let front = if call.words.len() > 1 && call.command == "check" { format!("{about}: ") } else { String::new() };
+    let (lines, mut fields, meaning, status) = match answer {
+        Ok(Told { lines, fields }) => (lines, fields, vec![], 0),
+        Err(Stop::Trouble(what)) => (vec![], vec![("trouble", Json::Text(what.clone()))], vec![what], TROUBLE),
         Err(Stop::Refused { refusal, file, place }) => {
-            explain(name, call, refusal, &file, place.as_ref());
+            let mut meaning = vec![format!("{front}{} means: {}", refusal.number(), refusal.meaning())];
+            meaning.extend(place.iter().map(|place| format!("{file}: {place}")));
             let status = if refusal == Refusal::AlreadyListed { 0 } else { refusal.number() };
-            (vec![refusal.to_string()], refused(refusal, file, place), status)
+            (vec![refusal.to_string()], refused(refusal, file, place), meaning, status)
         }
     };
-    if call.words.len() > 1 && call.command == "check" {
-        lines = lines.iter().map(|line| format!("{about}: {line}")).collect();
-    }
-    if call.json {
+    let text: String = if call.json {
         fields.insert(0, ("file", Json::Text(about)));
-        lines = vec![Json::Object(fields).to_string()];
-    }
-    let text: String = lines.iter().map(|line| format!("{line}\n")).collect();
-    print(name, &text).max(status)
-}
-
-/// Says on standard error what a refusal means, and where the fault is.
-fn explain(name: &str, call: &Call, refusal: Refusal, file: &str, place: Option<&Place>) {
-    let about = if call.words.len() > 1 && call.command == "check" { format!("{file}: ") } else { String::new() };
-    eprint(name, &format!("{about}{} means: {}", refusal.number(), refusal.meaning()));
-    if let Some(place) = place {
-        eprint(name, &format!("{file}: {place}"));
-    }
+        format!("{}\n", Json::Object(fields))
+    } else {
+        lines.iter().map(|line| format!("{front}{line}\n")).collect()
+    };
+    let shown = print(name, &text);
+    meaning.iter().for_each(|line| eprint(name, line));
+    shown.max(status)
 }
 
 /// A refusal for scripts.

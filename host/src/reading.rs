@@ -1,7 +1,7 @@
 //! Files are read whole, or as much of them as a record is read from.
 use crate::stop::{shown, Stop};
 use std::ffi::OsStr;
-use std::fs::File;
+use std::fs::{self, File, Metadata};
 use std::io::{self, ErrorKind, Read, Seek};
 use std::os::unix::fs::FileExt;
 use std::os::unix::io::AsFd;
@@ -21,11 +21,26 @@ struct Opened {
     size: Option<usize>,
 }
 
+/// A file, or standard input, to be read.
+fn named(name: &OsStr) -> io::Result<File> {
+    if name == "-" {
+        return io::stdin().as_fd().try_clone_to_owned().map(File::from);
+    }
+    File::open(name)
+}
+
+/// Which file is read. It is not opened by its name, as a named pipe would wait for its other end.
+pub fn about(name: &OsStr) -> io::Result<Metadata> {
+    if name == "-" {
+        return named(name)?.metadata();
+    }
+    fs::metadata(name)
+}
+
 /// Opens a file, or standard input. A file that is too long is refused before any of it is read.
 fn open(name: &OsStr) -> Result<Opened, Stop> {
     let not_read = |error| Stop::not_read(name, &error);
-    let file = if name == "-" { io::stdin().as_fd().try_clone_to_owned().map(File::from) } else { File::open(name) };
-    let mut file = file.map_err(not_read)?;
+    let mut file = named(name).map_err(not_read)?;
     let about = file.metadata().map_err(not_read)?;
     if !about.is_file() {
         return Ok(Opened { file, start: 0, size: None });

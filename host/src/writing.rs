@@ -1,5 +1,6 @@
 //! A new file is written under a name of its own, flushed to the disk, and only then gets its name: whatever
 //! happens before, an old file of that name stays whole, and no part of the new one has it.
+use crate::reading::about;
 use crate::stop::{shown, Stop};
 use crate::system::{lock, remove_on_signal};
 use std::ffi::OsStr;
@@ -47,8 +48,8 @@ impl Target {
 
     /// Refuses a place that is the file that is read: a sound that was donated is not to be lost to a copy of it.
     pub fn is_not(&self, read: &OsStr, role: &str) -> Result<(), Stop> {
-        match (&self.old, fs::metadata(read)) {
-            (Some(old), Ok(about)) if read != "-" && is_same(old, &about) => {
+        match (&self.old, about(read)) {
+            (Some(old), Ok(about)) if is_same(old, &about) => {
                 let (new, old) = (self.path.display(), shown(read));
                 Err(Stop::Trouble(format!("OUT would replace {role}: {new} and {old} are the same file")))
             }
@@ -120,7 +121,8 @@ impl Unfinished {
         unreachable!("there is always another number")
     }
 
-    /// Puts the bytes, flushes them to the disk and gives the file its name; the name is flushed too.
+    /// Puts the bytes, flushes them to the disk and gives the file its name. The name is flushed too where that is
+    /// possible; until then a machine that loses its power has the old file, whole.
     fn finish(mut self, target: &Target, bytes: &[u8]) -> io::Result<()> {
         self.file.write_all(bytes)?;
         if let Some(old) = &target.old {
@@ -128,7 +130,8 @@ impl Unfinished {
         }
         self.file.sync_all()?;
         fs::rename(&self.path, &target.path)?;
-        File::open(&target.folder)?.sync_all()
+        let _ = File::open(&target.folder).and_then(|folder| folder.sync_all());
+        Ok(())
     }
 }
 

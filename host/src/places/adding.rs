@@ -102,8 +102,8 @@ fn differs(record: &Record, at: usize, side: &[u8], song: &[u8]) -> Option<Strin
         Some(byte) => byte / align,
         None => there.len().min(sent.len()) / align,
     };
-    let lengths = format!("{} frames there, {} in the song", length.0, sent.len() / align);
-    Some(format!("another sound has this number: {lengths}, alike up to frame {frame}"))
+    let lengths = format!("{} frames there and {} in the song", length.0, sent.len() / align);
+    Some(format!("another sound has this number, {lengths}; they differ from frame {frame} on"))
 }
 
 /// Why there is no place for a song of so many frames.

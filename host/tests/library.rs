@@ -1,0 +1,128 @@
+//! The library on document 01's own examples, and on what a caller in Rust would try.
+use tronalhet::{
+    add, approval_copy, decode, decode_block, empty_side, encode, read, sixteen_bit, sound_of, write, Cue, Donation,
+    Fault, Format, Frames, Heard, Play, Record, Refusal, Room,
+};
+
+/// A record without cues.
+fn record(format: Format, frames: u32) -> Record {
+    Record { format, frames: Frames(frames), ..Record::default() }
+}
+
+fn eight_bit(frames: u32) -> Record {
+    record(Format { tag: 1, channels: 1, rate: 8000, bits: 8, align: 1, samples: 1 }, frames)
+}
+
+fn ima_mono(align: u16, samples: u16, frames: u32) -> Record {
+    record(Format { tag: 17, channels: 1, rate: 8000, bits: 4, align, samples }, frames)
+}
+
+/// What was made, as bytes or samples; else why it was not.
+fn made<T: tronalhet::Number>(answer: Result<Room<T>, Fault>) -> Result<Vec<T>, Fault> {
+    answer.map(|room| room.to_vec())
+}
+
+fn refused<T>(refusal: Refusal) -> Result<T, Fault> {
+    Err(Fault::Refused(refusal))
+}
+
+#[test]
+fn files_without_sound_and_with_one_byte() {
+    let none = made(write(&eight_bit(0), &[])).unwrap();
+    let one = made(write(&eight_bit(1), &[7])).unwrap();
+    assert_eq!((none.len(), one.len()), (44, 46));
+    assert_eq!((read(&none), read(&one)), (Ok(eight_bit(0)), Ok(eight_bit(1))));
+    assert_eq!((sound_of(&none), sound_of(&one)), (Ok(&[][..]), Ok(&[7][..])));
+    let mut cut = one[..45].to_vec();
+    cut[4] = 37;
+    assert_eq!(read(&cut), Err(Refusal::RiffSizeWrong));
+    assert_eq!(read(&[]), Err(Refusal::LengthOutOfRange));
+}
+
+#[test]
+fn eight_bit_sound_is_decoded() {
+    let file = write(&eight_bit(3), &[0, 128, 255]).unwrap();
+    assert_eq!(made(decode(&file)), Ok(vec![-32768, 0, 32512]));
+    let (sixteen, frames) = sixteen_bit(&file).unwrap();
+    assert_eq!((frames, sound_of(&sixteen)), (Frames(3), Ok(&[0, 0x80, 0, 0, 0, 0x7f][..])));
+}
+
+#[test]
+fn ima_is_encoded() {
+    let sound: Vec<i16> = std::iter::once(-32768).chain([32767; 16]).collect();
+    let coded = encode(&sound, 1, 12).unwrap();
+    assert_eq!(coded.blocks[..], [0x00, 0x80, 0, 0, 0x77, 0x77, 0x77, 0x77, 0x77, 0x17, 0, 0]);
+    assert_eq!((coded.left, coded.right), (Frames(11), Frames(0)));
+    assert_eq!(encode(&sound, 3, 12).err(), Some(Fault::Refused(Refusal::FormatWrong)));
+    assert_eq!(encode(&sound, 2, 16).err(), Some(Fault::Refused(Refusal::NotWholeFrames)));
+    assert_eq!(encode(&sound, 0, 0).err(), Some(Fault::Refused(Refusal::FormatWrong)));
+}
+
+#[test]
+fn an_index_of_88_is_read_and_89_is_not() {
+    for (index, frames) in [(88, Ok(9)), (89, refused(Refusal::BlockHeaderWrong))] {
+        let file = write(&ima_mono(8, 9, 9), &[0, 0, index, 0, 0, 0, 0, 0]).unwrap();
+        assert_eq!(made(decode(&file)).map(|sound| sound.len()), frames);
+        assert_eq!(made(decode_block(&file, 0)).map(|sound| sound.len()), frames);
+    }
+}
+
+#[test]
+fn microsoft_is_decoded() {
+    let format = Format { tag: 2, channels: 1, rate: 8000, bits: 4, align: 8, samples: 4 };
+    let file = write(&record(format, 3), &[0x00, 0x10, 0x00, 0x64, 0x00, 0x32, 0x00, 0x1f]).unwrap();
+    assert_eq!(made(decode(&file)), Ok(vec![50, 100, 116]));
+    assert_eq!(made(decode_block(&file, 0)), Ok(vec![50, 100, 116, 100]));
+    assert_eq!(made(decode_block(&file, 1)), refused(Refusal::NoSuchBlock));
+}
+
+#[test]
+fn records_that_cannot_be_are_refused() {
+    let mut many = eight_bit(1);
+    many.cues = vec![Cue::default(); 65];
+    assert_eq!(made(write(&many, &[0])), refused(Refusal::CuesWrong));
+    many.cues.clear();
+    many.playlist = vec![Play::default(); 1000];
+    assert_eq!(made(write(&many, &[0])), refused(Refusal::PlaylistWrong));
+    assert_eq!(made(write(&eight_bit(2), &[0])), refused(Refusal::FactWrong));
+    assert_eq!(made(write(&Record::default(), &[])), refused(Refusal::FormatWrong));
+}
+
+#[test]
+fn songs_are_added_once() {
+    let song = |value: u8| write(&record(Format::sixteen_bit(1, 8000), 4), &[value; 8]).unwrap();
+    let empty = empty_side(1, 8000).unwrap();
+    let side = add(&empty, &song(1), Donation(7), Frames(8)).unwrap();
+    let side = add(&side, &song(2), Donation(9), Frames(8)).unwrap();
+    let there = read(&side).unwrap();
+    let cue = |name, place| Cue { name: Donation(name), position: Frames(place), place: Frames(place) };
+    let play = |name| Play { name: Donation(name), length: Frames(4), times: 1 };
+    assert_eq!((there.cues, there.playlist), (vec![cue(7, 0), cue(9, 4)], vec![play(7), play(9)]));
+    assert_eq!(sound_of(&side), Ok(&[[1; 8], [2; 8]].concat()[..]));
+    let again = |song: &[u8], number| made(add(&side, song, Donation(number), Frames(8)));
+    assert_eq!(again(&song(1), 7), refused(Refusal::AlreadyListed));
+    assert_eq!(again(&song(3), 7), refused(Refusal::SongEmptyOrDifferent));
+    assert_eq!(again(&song(3), 8), refused(Refusal::NoPlaceOnSide));
+    assert_eq!(made(add(&song(1), &song(2), Donation(1), Frames(8))), refused(Refusal::NotASide));
+    assert_eq!(made(empty_side(3, 8000)), refused(Refusal::FormatWrong));
+    assert_eq!(made(empty_side(65535, 8000)), refused(Refusal::FormatWrong));
+}
+
+#[test]
+fn a_copy_is_written_from_sound_in_any_format() {
+    let sound: Vec<u8> = (0..2000u32).map(|place| (place * place % 256) as u8).collect();
+    let eight = write(&eight_bit(2000), &sound).unwrap();
+    let (sixteen, _) = sixteen_bit(&eight).unwrap();
+    let copies = [eight, sixteen].map(|file| approval_copy(&Heard::of(file).ok().unwrap(), 256).unwrap().file.to_vec());
+    assert_eq!(copies[0], copies[1]);
+    assert_eq!(read(&copies[0]), Ok(ima_mono(256, 505, 2000)));
+    let blocks: Vec<i16> = made(decode(&copies[0])).unwrap().into_iter().step_by(505).collect();
+    let opening: Vec<i16> = sound.iter().step_by(505).map(|value| (i16::from(*value) - 128) * 256).collect();
+    assert_eq!(blocks, opening);
+}
+
+#[test]
+fn a_file_that_is_not_heard_is_given_back() {
+    let (file, fault) = Heard::of(Room::new(3).unwrap()).err().unwrap();
+    assert_eq!((&file[..], fault), (&[0; 3][..], Fault::Refused(Refusal::LengthOutOfRange)));
+}
