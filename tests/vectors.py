@@ -97,7 +97,7 @@ def little():
 def samples():
     borders = [0, 1, -1, 127, 128, -128, -129, 255, 256, -255, -256, -257, 12345, -12345,
                32766, 32767, -32766, -32767, -32768, 4660]
-    # 71 samples: the loop for 16 bits takes 32 at a turn, and has a rest
+    # 71 samples and 143 bytes: the loop for 16 bits takes 32 samples at a turn, that for 8 bits 64 bytes, and both have a rest
     sound = borders + [k * 7919 % 65536 - 32768 for k in range(71 - len(borders))]
     data = struct.pack(f'<{len(sound)}h', *sound) + b'\x99'
     short = sound + [7] * (80 - len(sound))

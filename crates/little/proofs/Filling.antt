@@ -263,9 +263,6 @@ module _ {A : Type 0} where
   front-begins h = write-begins (omega arith)
 
 module _ {A : Type 0} {ys d d₀ : List A} {i : ℕ} (w : Written ys 0 i d d₀) where
-  pub front-room : i < length ys → i < length d
-  front-room h = omega (arith, write-room w h)
-
   pub front-next : {v : A} (z : A) → i < length ys → v ≡ getD ys i z → Written ys 0 (i + 1) (set d i v) d₀
   front-next {v} z h e = subst (λ (k : ℕ). Written ys 0 (i + 1) (set d k v) d₀) (zero-add i) (write-next w z h e)
 

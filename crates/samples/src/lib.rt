@@ -152,16 +152,78 @@ pub fn from_pcm16(bytes: &[u8], out: &mut [i16])
     rest_from_pcm16(bytes, i, out);
 }
 
+// The four samples from i on of 8-bit PCM.
+fn four_of_pcm8(bytes: &[u8], i: usize) -> Four
+    requires { ⌜ i + 4 ≤ length (now bytes) ⌝ }
+    ensures { λ r. ⌜ r .first ∷ r .second ∷ r .third ∷ r .fourth ∷ [] ≡ take 4 (drop i (map eight (now (bytes .entry)))) ⌝ }
+{
+    Four {
+        first: from_eight(bytes[i]),
+        second: from_eight(bytes[i + 1]),
+        third: from_eight(bytes[i + 2]),
+        fourth: from_eight(bytes[i + 3]),
+    }
+}
+
+// Turns the eight values from i on of 8-bit PCM, all read before the first is written.
+fn eight_from_pcm8(bytes: &[u8], i: usize, out: &mut [i16])
+    requires { ⌜ i + 8 ≤ length (now bytes) ⌝ }
+    requires { ⌜ i + 8 ≤ length (now out) ⌝ }
+    ensures { λ _. ⌜ Put (now (out .entry)) i (take 8 (drop i (map eight (now (bytes .entry))))) (now (out .exit)) ⌝ }
+{
+    let early = four_of_pcm8(bytes, i);
+    let late = four_of_pcm8(bytes, i + 4);
+    put_four(out, i, early);
+    put_four(out, i + 4, late);
+}
+
+// Turns the sixteen values from i on of 8-bit PCM.
+fn sixteen_from_pcm8(bytes: &[u8], i: usize, out: &mut [i16])
+    requires { ⌜ i + 16 ≤ length (now bytes) ⌝ }
+    requires { ⌜ i + 16 ≤ length (now out) ⌝ }
+    ensures { λ _. ⌜ Put (now (out .entry)) i (take 16 (drop i (map eight (now (bytes .entry))))) (now (out .exit)) ⌝ }
+{
+    eight_from_pcm8(bytes, i, out);
+    eight_from_pcm8(bytes, i + 8, out);
+}
+
+// Turns the 64 values from i on of 8-bit PCM.
+fn many_from_pcm8(bytes: &[u8], i: usize, out: &mut [i16])
+    requires { ⌜ i + 64 ≤ length (now bytes) ⌝ }
+    requires { ⌜ i + 64 ≤ length (now out) ⌝ }
+    ensures { λ _. ⌜ Put (now (out .entry)) i (take 64 (drop i (map eight (now (bytes .entry))))) (now (out .exit)) ⌝ }
+{
+    sixteen_from_pcm8(bytes, i, out);
+    sixteen_from_pcm8(bytes, i + 16, out);
+    sixteen_from_pcm8(bytes, i + 32, out);
+    sixteen_from_pcm8(bytes, i + 48, out);
+}
+
+// Turns the values from i on of 8-bit PCM, one by one.
+fn rest_from_pcm8(bytes: &[u8], i: usize, out: &mut [i16])
+    requires { ⌜ i ≤ length (now bytes) ⌝ }
+    requires { ⌜ length (now bytes) ≤ length (now out) ⌝ }
+    ensures { λ _. ⌜ Put (now (out .entry)) i (drop i (map eight (now (bytes .entry)))) (now (out .exit)) ⌝ }
+{
+    let mut j = i;
+    while j < bytes.len() {
+        out[j] = from_eight(bytes[j]);
+        j += 1;
+    }
+}
+
 // Turns 8-bit PCM into samples, from the start of a lent buffer.
 pub fn from_pcm8(bytes: &[u8], out: &mut [i16])
     requires { ⌜ length (now bytes) ≤ length (now out) ⌝ }
     ensures { λ _. ⌜ now (out .exit) ≡ front (map eight (now (bytes .entry))) (now (out .entry)) ⌝ }
 {
+    let n = bytes.len();
     let mut i = 0;
-    while i < bytes.len() {
-        out[i] = from_eight(bytes[i]);
-        i += 1;
+    while 64 <= n - i {
+        many_from_pcm8(bytes, i, out);
+        i += 64;
     }
+    rest_from_pcm8(bytes, i, out);
 }
 
 // Turns samples into 16-bit PCM, from the start of a lent buffer.

@@ -1,5 +1,5 @@
 -- Two writes of four samples, one behind the other, are one of eight.
-use Rattle.samples.proofs.Turning.{twice-four}
+use Rattle.samples.proofs.Turning.{joining}
 use borrow.Author.Needs.{needs}
 use Rattle.samples.proofs.eight_from_pcm16.Statement.{statement}
 use Rattle.samples.proofs.eight_from_pcm16.Tie as tie
@@ -7,6 +7,6 @@ use Rattle.samples.proofs.eight_from_pcm16.Tie as tie
 pub eight-from-pcm16-spec : {M : Type 1} → statement M
 eight-from-pcm16-spec =
     tie.close
-    (tie.spec (λ c κs. search (needs, twice-four)) (λ c. search (needs, twice-four))
-    (λ c κs. search (needs, twice-four)) (λ c κs. search (needs, twice-four)) (λ c. search (needs, twice-four))
-    (λ c κs. search (needs, twice-four)) (λ c. search (needs, twice-four)) (λ c. search (needs, twice-four)))
+    (tie.spec (λ c κs. search (needs, joining)) (λ c. search (needs, joining))
+    (λ c κs. search (needs, joining)) (λ c κs. search (needs, joining)) (λ c. search (needs, joining))
+    (λ c κs. search (needs, joining)) (λ c. search (needs, joining)) (λ c. search (needs, joining)))

@@ -1,12 +1,13 @@
 -- The samples from i up to j are written, the rest of the buffer is as it was; every turn writes the next.
 use Prim.Native.Nat.{_-_}
 use Rattle.samples.proofs.Turning.{Rest, rest-turning}
+use Rattle.samples.specs.Sound.{samplesIn}
 use borrow.Author.Needs.{needs}
 use Rattle.samples.proofs.rest_from_pcm16.Statement.{statement}
 use Rattle.samples.proofs.rest_from_pcm16.Tie as tie
 
 abbrev Inv-loop : tie.InvT-loop
-Inv-loop bytes i out₀ n j₀ out j = Rest bytes i j out out₀
+Inv-loop bytes i out₀ n j₀ out j = Rest (samplesIn bytes) i j out out₀
 
 abbrev μ-loop : tie.MeasureT-loop
 μ-loop bytes i out₀ n j₀ out j = n - j
