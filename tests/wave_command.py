@@ -3,6 +3,8 @@
 
     tests/wave_command.py       after `rt check` or `rt ci`
 
+The command tronalhet, which ./wave uses where it is built, is left out here; tests/host_command.py tries that.
+
 What they must print and write is worked out by tests/second_command.py. A full disk is played by a limit on the size
 of files, which stops a write in the same way; permissions are left out where root runs the test, whom they do not stop.
 """
@@ -19,77 +21,19 @@ import tempfile
 import textwrap
 import time
 
-import other_programs
 import other_songs
 import second_command
 import second_reader
-import second_side
 import second_writer
 import sound_files
-from programs import KIT, ROOT, command
+from programs import KIT, command
 from second_command import LIMIT, answer
 from second_writer import Record
-
-sys.path.insert(0, str(ROOT / 'demo'))
-import make
+from trying import (EMPTY, ROOT, SONG, empty_for, expect, kept, limited, make, meanings, other_files, overlapping,
+                    printed, put, report, run, tried)
 
 CHECK, DECODE, ENCODE, ADD = (command(name) for name in ('wave_check', 'wave_decode', 'wave_encode', 'side_add'))
 WAVE = [ROOT / 'wave']
-SONG, EMPTY = make.files()['school-song.wav'], make.files()['empty-side.wav']
-WRONG = []
-
-
-def expect(label, found, wanted):
-    """Takes down what is not as it must be."""
-    if found != wanted:
-        WRONG.append(f'{label}: it is {str(found)[:400]}, and must be {str(wanted)[:400]}')
-
-
-def run(words, folder, **options):
-    """Exit status, standard output and standard error of a program that is run in a folder."""
-    ran = subprocess.run([str(word) for word in words], cwd=folder, stdin=subprocess.DEVNULL, stdout=subprocess.PIPE,
-                         stderr=subprocess.PIPE, check=False, **options)
-    return ran.returncode, ran.stdout.decode(), ran.stderr.decode()
-
-
-def limited(kind, size):
-    """Options for `run` under a limit of the system."""
-    return {'preexec_fn': lambda: resource.setrlimit(kind, (size, size)), 'restore_signals': False}
-
-
-def printed(lines):
-    """Lines as a program prints them."""
-    return ''.join(f'{line}\n' for line in lines)
-
-
-def kept(folder):
-    """All that a folder has, by name: the bytes of a file, where a link leads, None for a folder."""
-    return {str(path.relative_to(folder)): os.readlink(path) if path.is_symlink()
-            else path.read_bytes() if path.is_file() else None for path in folder.rglob('*')}
-
-
-def put(path, content):
-    """Makes a file of bytes, or a link to where a text says."""
-    if isinstance(content, str):
-        path.symlink_to(content)
-    else:
-        path.write_bytes(content)
-
-
-def tried(label, words, files, wanted, changed, **options):
-    """Runs a program in a folder with these files: it must answer what is wanted, and change nothing else there."""
-    with tempfile.TemporaryDirectory() as name:
-        folder = pathlib.Path(name)
-        for file, content in files.items():
-            put(folder / file, content)
-        (folder / 'folder').mkdir()
-        (folder / 'link.wav.part').symlink_to('/dev/full')
-        after = {**kept(folder), **changed}
-        expect(label, run(words, folder, **options), wanted)
-        found = kept(folder)
-        expect(f'{label}, the files that are there', sorted(found), sorted(after))
-        wrong = [file for file in after if found.get(file) != after[file]]
-        expect(f'{label}, the files that are not as they must be', wrong, [])
 
 
 def does(label, words, files, answered, out='new.wav', **options):
@@ -100,26 +44,11 @@ def does(label, words, files, answered, out='new.wav', **options):
 
 def trouble(words, said, status=0, **options):
     """A program says one line on standard error and nothing on standard output, and changes nothing."""
-    files = {'song.wav': SONG, 'side.wav': EMPTY, 'taken.wav.part': b'taken'}
+    files = {'song.wav': SONG, 'side.wav': EMPTY, 'taken.wav.part': b'taken', 'link.wav.part': '/dev/full'}
     tried(' '.join(map(str, words[-6:])), words, files, (status, '', f'{said}\n'), {}, **options)
 
 
 # ---- files of other programs
-
-def other_files():
-    """The files of other programs, by name; each once."""
-    folders = [other_programs.DATA, other_songs.HEARD, other_songs.DATA]
-    return {path.name: path.read_bytes() for folder in folders for path in sorted(folder.glob('*.wav'))}
-
-
-def empty_for(song):
-    """An empty side of a song's channels and rate, or of any where the song is refused."""
-    try:
-        _, channels, rate, _, _, _ = second_reader.read(song)[0]
-    except second_reader.Refused:
-        return EMPTY
-    return second_side.empty(channels, rate)[1]
-
 
 def on_other_files():
     """Each file is checked, decoded, copied and added to an empty side of its format; what is decoded is as heard."""
@@ -312,18 +241,12 @@ def no_numbers():
 
 # ---- ./wave
 
-def meanings():
-    """What ./wave says of each refusal, from its table."""
-    table = (ROOT / 'wave').read_text().split('\nmeanings=(\n')[1].split('\n)\n')[0]
-    return [f'wave: {number} means: {line.strip()[1:-1]}' for number, line in enumerate(table.splitlines(), 1)]
-
-
 def meaning(lines):
     """What ./wave says on standard error of these lines of a program, and its exit status."""
     if not lines[0].startswith('refused'):
         return '', 0
     number = int(lines[0].split()[1])
-    return f'{meanings()[number - 1]}\n', 0 if number == 18 else number
+    return f'wave: {number} means: {meanings()[number]}\n', 0 if number == 18 else number
 
 
 def wave_says(label, words, files, answered, out='new.wav'):
@@ -362,21 +285,34 @@ def wave_refusals():
 
 def wave_trouble():
     """Status 74, and one line."""
-    number = 'must be a whole number from 0 to 65535'
     for words, said in ((['check', 'nowhere'], 'wave_check: cannot read nowhere: No such file or directory'),
                         (['decode', 'song.wav', 'side.wav/x'],
                          'wave_decode: cannot make side.wav/x.part: Not a directory'),
-                        (['encode', 'song.wav', 'x', 'y'], f"wave_encode: ALIGN {number}, not 'y'"),
                         (['list', 'nowhere'], 'wave: cannot read nowhere: there is no such file'),
                         (['list', 'folder'], 'wave: cannot read folder: it is a folder'),
                         (['add', 'side.wav', 'song.wav', 1, 9999, 'nowhere/x'],
                          'side_add: cannot make nowhere/x.part: No such file or directory'),
                         (['add', 'side.wav', 'song.wav', 1, 9999, 'side.wav/x'],
                          'side_add: cannot make side.wav/x.part: Not a directory'),
-                        (['decode', 'song.wav', 'folder'], 'wave: cannot write folder: it is there, and is no file'),
-                        (['add', 'side.wav', 'song.wav', 1, 9999, '/dev/null'],
-                         'wave: cannot write /dev/null: it is there, and is no file')):
+                        (['decode', 'song.wav', 'folder'], 'wave: cannot write folder: it is there, and is no file')):
         trouble([*WAVE, *words], said, 74)
+
+
+def wave_numbers():
+    """A word that is no number, or too large a one, is a wrong call; zeros in front do not matter."""
+    for word in ('', 'seven', '-1', '+1', ' 1', '1 ', '1.0', '0x10', '08a', '9' * 30):
+        said = 'must be a whole number from 0 to {}, not \'' + word + '\''
+        most = said.format(2**32 - 1)
+        trouble([*WAVE, 'add', 'side.wav', 'song.wav', word, 1000, 'new.wav'], f'wave: NUMBER {most}', 64)
+        trouble([*WAVE, 'add', 'side.wav', 'song.wav', 7, word, 'new.wav'], f'wave: LIMIT {most}', 64)
+        trouble([*WAVE, 'encode', 'song.wav', 'new.wav', word], f'wave: ALIGN {said.format(65535)}', 64)
+    trouble([*WAVE, 'add', 'side.wav', 'song.wav', 2**32, 1000, 'new.wav'],
+            "wave: NUMBER must be a whole number from 0 to 4294967295, not '4294967296'", 64)
+    trouble([*WAVE, 'encode', 'song.wav', 'new.wav', 65536],
+            "wave: ALIGN must be a whole number from 0 to 65535, not '65536'", 64)
+    for number in ('08', '4294967295', '000000000000000000010'):
+        wave_says(f'number {number}', ['add', 'side.wav', 'song.wav', number, 1600, 'new.wav'],
+                  {'side.wav': EMPTY, 'song.wav': SONG}, answer(second_command.add, EMPTY, SONG, int(number), 1600))
 
 
 def wave_links():
@@ -453,64 +389,32 @@ def wave_socket():
                (74, '', 'wave: cannot read socket: it cannot be opened\n'))
 
 
+def wave_pipe():
+    """What is there and no file is not replaced."""
+    with tempfile.TemporaryDirectory() as folder:
+        os.mkfifo(f'{folder}/pipe')
+        put(pathlib.Path(folder, 'song.wav'), SONG)
+        expect('./wave decode to a pipe', run([*WAVE, 'decode', 'song.wav', 'pipe'], folder),
+               (74, '', 'wave: cannot write pipe: it is there, and is no file\n'))
+        expect('the pipe', sorted(os.listdir(folder)), ['pipe', 'song.wav'])
+
+
 # ---- two adds at a time
 
-def start(words, folder):
-    """Starts ./wave, in a group of processes that can be killed as one."""
-    return subprocess.Popen([str(word) for word in [*WAVE, *words]], cwd=folder, stdin=subprocess.DEVNULL, text=True,
-                            stdout=subprocess.PIPE, stderr=subprocess.PIPE, start_new_session=True)
-
-
-def opened(pipe):
-    """The writing end of a named pipe, as soon as a program reads it; it waits for that half a minute."""
-    for _ in range(3000):
-        try:
-            return os.open(pipe, os.O_WRONLY | os.O_NONBLOCK)
-        except OSError:
-            time.sleep(0.01)
-    raise TimeoutError(f'no program reads {pipe}')
-
-
-def overlapping(label, out, killed, wanted):
-    """An add has read the side and waits for its song, and is killed so; a second add starts, and then the song comes.
-
-    The second knows the side by another path. What is wanted: what the two say, whether the second says that it waits,
-    and the songs of the side in the end.
-    """
-    with tempfile.TemporaryDirectory() as name:
-        folder = pathlib.Path(name)
-        (folder / '-sides').mkdir()
-        put(folder / out, EMPTY)
-        put(folder / 'song.wav', make.files()['harbour-song.wav'])
-        os.mkfifo(folder / 'pipe')
-        with start(['add', out, 'pipe', 1, 40000, out], folder) as first:
-            pipe = opened(folder / 'pipe')
-            killed(first)
-            with start(['add', folder / out, folder / 'song.wav', 2, 40000, folder / out], '/') as second:
-                # It says that it waits, or ends without a word; if it did not wait, it would soon be done.
-                said = second.stderr.readline()
-                time.sleep(0.3)
-                try:
-                    os.write(pipe, SONG)
-                except BrokenPipeError:
-                    pass
-                os.close(pipe)
-                told = first.communicate(timeout=60)[0], second.communicate(timeout=60)[0]
-        waiting = f'wave: waiting for another add in {(folder / out).parent}/\n'
-        expect(f'{label}, what the adds say', (told, said), (wanted[0], waiting if wanted[1] else ''))
-        songs = [song.number for song in second_side.songs((folder / out).read_bytes())]
-        expect(f'{label}, the songs of the side', songs, wanted[2])
-        expect(f'{label}, the files', sorted(kept(folder)), sorted(['-sides', out, 'pipe', 'song.wav']))
+def adding(side, song, number):
+    """The words of an add to a side."""
+    return [*WAVE, 'add', side, song, number, 40000, side]
 
 
 def two_adds():
     """No song is lost: the second add waits for the first one, and for its program where ./wave alone is killed."""
     both = 'added 1\nbytes 3304\n', 'added 2\nbytes 5740\n'
     for out in ('side.wav', '-sides/side.wav'):
-        overlapping(f'two adds to {out}', out, lambda first: None, (both, True, [1, 2]))
-    overlapping('an add after ./wave was killed', 'side.wav', lambda first: first.kill(), (('', both[1]), True, [1, 2]))
-    overlapping('an add after one was killed whole', 'side.wav', lambda first: os.killpg(first.pid, signal.SIGKILL),
-                (('', 'added 2\nbytes 2504\n'), False, [2]))
+        overlapping(f'two adds to {out}', 'wave', adding, out, lambda first: None, (both, True, [1, 2]))
+    overlapping('an add after ./wave was killed', 'wave', adding, 'side.wav', lambda first: first.kill(),
+                (('', both[1]), True, [1, 2]))
+    overlapping('an add after one was killed whole', 'wave', adding, 'side.wav',
+                lambda first: os.killpg(first.pid, signal.SIGKILL), (('', 'added 2\nbytes 2504\n'), False, [2]))
 
 
 def no_flock():
@@ -519,7 +423,8 @@ def no_flock():
         for word in ('bash', 'readlink', 'dirname', 'find', 'rt'):
             (pathlib.Path(name) / word).symlink_to(shutil.which(word))
         trouble([*WAVE, 'add', 'side.wav', 'song.wav', 7, 2000, 'new.wav'],
-                'wave: flock is missing, which keeps two adds apart: it is part of util-linux', 74, env={'PATH': name})
+                'wave: flock is missing, which keeps two adds apart: it is part of util-linux', 74,
+                env={'PATH': name, 'WAVE_HOST': 'no'})
 
 
 def wave_called_wrongly():
@@ -663,16 +568,15 @@ def settle():
 
 
 def main():
+    os.environ['WAVE_HOST'] = 'no'
     settle()
     for part in (on_other_files, on_kept_sides, at_the_limit, sides_at_the_limit, above_the_limit, numbers, places,
                  called_wrongly, not_read, not_written, full_disk, no_numbers, wave_commands, wave_refusals,
-                 wave_trouble, wave_links, wave_same_file, wave_part, wave_not_writable, wave_not_shown, wave_socket,
-                 wave_called_wrongly, two_adds, no_flock, built_without_lock, wave_builds,
+                 wave_trouble, wave_numbers, wave_links, wave_same_file, wave_part, wave_not_writable, wave_not_shown,
+                 wave_socket, wave_pipe, wave_called_wrongly, two_adds, no_flock, built_without_lock, wave_builds,
                  demonstration, asked_once, readme):
         part()
-    for line in WRONG[:20]:
-        print(f'tests/wave_command.py: {line}')
-    return 1 if WRONG else 0
+    return report('tests/wave_command.py')
 
 
 if __name__ == '__main__':

@@ -4,7 +4,7 @@
 //! tell a volunteer where to look; where it finds none it says nothing.
 use crate::record::{Cue, Format, Record};
 use crate::units::{BytePlace, Donation, Frames, Refusal};
-use crate::{operations, MOST_BYTES};
+use crate::{operations, MOST_BYTES, MOST_SAMPLES};
 use std::fmt;
 
 mod adding;
@@ -121,7 +121,7 @@ fn find(file: &[u8], code: &[u8; 4]) -> Option<Chunk> {
 /// Where the fault of a refused file is. For 15 the file is one that reading takes.
 pub fn of_file(refusal: Refusal, file: &[u8]) -> Option<Place> {
     match refusal {
-        Refusal::LengthOutOfRange => of_length(file.len() as u64),
+        Refusal::LengthOutOfRange => of_length(file.len() as u64).or_else(|| too_much(file)),
         Refusal::NotWave => head(file),
         Refusal::RiffSizeWrong => riff_size(file),
         Refusal::ChunkPastTheEnd => chunks(file).find_map(Result::err).flatten(),
@@ -139,9 +139,24 @@ pub fn of_file(refusal: Refusal, file: &[u8]) -> Option<Place> {
     }
 }
 
-/// What is wrong with a length.
+/// What is wrong with a length, if anything is.
 pub fn of_length(bytes: u64) -> Option<Place> {
-    whole(format!("it has {bytes} bytes; a WAVE file has from 12 to {MOST_BYTES}"))
+    let fine = (12..=MOST_BYTES as u64).contains(&bytes);
+    let what = format!("it has {bytes} bytes; a WAVE file has from 12 to {MOST_BYTES}");
+    if fine {
+        None
+    } else {
+        whole(what)
+    }
+}
+
+/// Why a file that reading takes is not decoded or encoded: its sound is too long for a 16-bit file, or for the codec.
+fn too_much(file: &[u8]) -> Option<Place> {
+    let record = operations::read(file).ok()?;
+    let samples = operations::samples_in(record.frames, &record.format);
+    let bytes = Record { format: Format::sixteen_bit(1, 1), ..record }.file_bytes(2 * samples);
+    let most = format!("{MOST_SAMPLES} samples and {MOST_BYTES} bytes are the most");
+    whole(format!("its sound has {samples} samples, in 16 bits a file of {bytes} bytes; {most}"))
 }
 
 fn head(file: &[u8]) -> Option<Place> {

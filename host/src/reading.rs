@@ -14,6 +14,9 @@ const SHORT: usize = 1 << 16;
 /// A chunk's head, and more of its data than reading ever looks at: a table of 64 cues has 1,540 bytes.
 const LOOKED_AT: usize = 4096;
 
+/// How much is read on where chunks are so short that one follows in what was read.
+const AHEAD: usize = 1 << 16;
+
 /// A file that is open: where reading starts, and how many bytes there are from there on, if that is known.
 struct Opened {
     file: File,
@@ -108,11 +111,10 @@ pub fn glance(name: &OsStr) -> Result<Room<u8>, Stop> {
 fn heads(file: &File, start: u64, room: &mut [u8]) -> io::Result<()> {
     let (mut next, mut there) = (0, 0);
     while next < room.len() {
-        let end = room.len().min(next + LOOKED_AT);
-        let from = there.max(next);
-        if from < end {
-            file.read_exact_at(&mut room[from..end], start + from as u64)?;
-            there = end;
+        if there < room.len().min(next + LOOKED_AT) {
+            let (from, more) = if next < there { (there, AHEAD) } else { (next, LOOKED_AT) };
+            there = room.len().min(from + more);
+            file.read_exact_at(&mut room[from..there], start + from as u64)?;
         }
         if !room.starts_with(b"RIFF") {
             return Ok(());
@@ -156,14 +158,14 @@ mod tests {
 
     #[test]
     fn heads_are_read_and_no_more() {
-        let long = chunk(b"junk", &[1; 99_999]);
+        let long = chunk(b"junk", &[1; 199_999]);
         let file = [b"RIFF....WAVE".to_vec(), long.clone(), chunk(b"fmt ", &[2; 16]), long].concat();
         let room = glanced(&file);
-        assert_eq!(room[..LOOKED_AT + 12], file[..LOOKED_AT + 12]);
-        assert!(room[LOOKED_AT + 12..100_020].iter().all(|byte| *byte == 0));
-        assert_eq!(room[100_020..100_020 + LOOKED_AT], file[100_020..100_020 + LOOKED_AT]);
-        assert_eq!(room[100_044..][..LOOKED_AT], file[100_044..][..LOOKED_AT]);
-        assert!(room[100_044 + LOOKED_AT..].iter().all(|byte| *byte == 0));
+        let zero = |from: usize, to: usize| room[from..to].iter().all(|byte| *byte == 0);
+        assert_eq!(room[..12 + LOOKED_AT], file[..12 + LOOKED_AT]);
+        assert!(zero(LOOKED_AT + AHEAD, 200_020));
+        assert_eq!(room[200_020..200_044 + LOOKED_AT], file[200_020..200_044 + LOOKED_AT]);
+        assert!(zero(200_020 + LOOKED_AT + AHEAD, file.len()));
     }
 
     #[test]

@@ -1,8 +1,9 @@
-//! What the standard library does not have: locks on open files, and the removal of an unfinished file on a signal.
+//! What the standard library does not have: locks on open files, their owner and group, and the removal of an
+//! unfinished file on a signal.
 use std::ffi::CString;
 use std::fs::File;
 use std::io;
-use std::os::raw::{c_char, c_int};
+use std::os::raw::{c_char, c_int, c_uint};
 use std::os::unix::ffi::OsStrExt;
 use std::os::unix::io::AsRawFd;
 use std::path::Path;
@@ -11,6 +12,7 @@ use std::sync::atomic::{AtomicPtr, Ordering};
 
 extern "C" {
     fn flock(file: c_int, operation: c_int) -> c_int;
+    fn fchown(file: c_int, owner: c_uint, group: c_uint) -> c_int;
     fn signal(number: c_int, handler: usize) -> usize;
     fn raise(number: c_int) -> c_int;
     fn unlink(path: *const c_char) -> c_int;
@@ -37,6 +39,17 @@ pub fn lock(file: &File, wait: bool) -> io::Result<bool> {
             io::ErrorKind::Interrupted => {}
             io::ErrorKind::WouldBlock => return Ok(false),
             _ => return Err(error),
+        }
+    }
+}
+
+/// Gives an open file an owner and a group, or the group alone where the owner may not be given: volunteers who share
+/// a side by their group share the new one too.
+pub fn keep_owner(file: &File, owner: u32, group: u32) {
+    // SAFETY: the file is open as long as it is borrowed.
+    unsafe {
+        if fchown(file.as_raw_fd(), owner, group) != 0 {
+            fchown(file.as_raw_fd(), c_uint::MAX, group);
         }
     }
 }

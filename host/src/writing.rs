@@ -2,7 +2,7 @@
 //! happens before, an old file of that name stays whole, and no part of the new one has it.
 use crate::reading::about;
 use crate::stop::{shown, Stop};
-use crate::system::{lock, remove_on_signal};
+use crate::system::{keep_owner, lock, remove_on_signal};
 use std::ffi::OsStr;
 use std::fs::{self, File, Metadata, OpenOptions};
 use std::io::{self, ErrorKind, Write};
@@ -13,8 +13,9 @@ use std::path::{Path, PathBuf};
 const BEGINS: &str = ".tronalhet-";
 const ENDS: &str = ".part";
 
-/// Open a link itself and not what it leads to, as Linux on x86-64 has it.
+/// Open no link, and do not wait for the other end of a named pipe; as Linux on x86-64 has them.
 const NO_FOLLOW: i32 = 0o400_000;
+const NO_WAIT: i32 = 0o4_000;
 
 /// Where a new file is to be. A link is followed: it stays, and the file that it leads to is written.
 pub struct Target {
@@ -126,6 +127,7 @@ impl Unfinished {
     fn finish(mut self, target: &Target, bytes: &[u8]) -> io::Result<()> {
         self.file.write_all(bytes)?;
         if let Some(old) = &target.old {
+            keep_owner(&self.file, old.uid(), old.gid());
             self.file.set_permissions(old.permissions())?;
         }
         self.file.sync_all()?;
@@ -161,10 +163,17 @@ fn sweep(folder: &Path) {
         let name = entry.file_name();
         let name = name.to_string_lossy();
         if name.starts_with(BEGINS) && name.ends_with(ENDS) {
-            let open = OpenOptions::new().write(true).custom_flags(NO_FOLLOW).open(entry.path());
-            if open.map_or(false, |file| lock(&file, false).unwrap_or(false)) {
-                let _ = fs::remove_file(entry.path());
-            }
+            remove_unlocked(&entry.path());
+        }
+    }
+}
+
+/// The lock is held until the file is gone, so that a run which has just made it sees that.
+fn remove_unlocked(path: &Path) {
+    let open = OpenOptions::new().write(true).custom_flags(NO_FOLLOW | NO_WAIT).open(path);
+    if let Ok(file) = open {
+        if lock(&file, false).unwrap_or(false) {
+            let _ = fs::remove_file(path);
         }
     }
 }
