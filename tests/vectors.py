@@ -86,10 +86,10 @@ def little():
     for at, piece in puts:
         buffer[at:at + len(piece)] = piece
         lines.append('buffer' + hexed(buffer))
-    # a copy takes 64 bytes at a turn
+    # from 80 bytes on a copy takes the first few by themselves, and then 64 at a turn
     letters = string.ascii_lowercase + string.digits + string.ascii_uppercase + '-+'
     run = (letters + letters[::-1] + letters).encode()
-    for copied in (run[:63], run[:64], run[:64] + b'.', run[:128], run[:128] + b'.', run[:150]):
+    for copied in (run[:79], run[:80], run[:80] + b'.', run[:128], run[:128] + b'.', run[:150]):
         lines.append('buffer' + hexed(b'\xaa' * 5 + copied + b'\xaa' * (155 - len(copied))))
     return data, '\n'.join(lines) + '\n'
 

@@ -218,7 +218,7 @@ module _ {A : Type 0} {ys d d₀ : List A} {at i : ℕ} (w : Written ys at i d d
       (omega (arith, part-long ys i k (omega arith)))
       (omega arith)
 
-  -- the last k elements, of which some may be written already: the first j are, and stay
+  -- the first j elements, of those that are written
   first-part : (j : ℕ) → j ≤ i → take (at + j) d ≡ take at d₀ ++ take j ys
   first-part j h =
       let l = length-take-le (at + i) d (w .filled .room) in
@@ -229,6 +229,7 @@ module _ {A : Type 0} {ys d d₀ : List A} {at i : ℕ} (w : Written ys at i d d
       ∙ ap (λ (k : ℕ). take (k + j) (take at d₀ ++ ys)) (sym l₀)
       ∙ take-append-add (take at d₀) ys j
 
+  -- the last k elements, of which some may be written already
   pub last-room : (k : ℕ) → k ≤ length ys → at + (length ys - k) + k ≤ length d
   last-room k h = omega (arith, w .room, w .filled .long)
 
@@ -250,6 +251,25 @@ module _ {A : Type 0} {ys d d₀ : List A} {at i : ℕ} (w : Written ys at i d d
             ∙ (λ x. f x ++ g x ++ t x)
             ∙ ap (λ (z : List A). z ++ r) (append-assoc (take at d₀) (take j ys) (drop j ys) ∙ ap (λ (z : List A). take at d₀ ++ z) (take-append-drop j ys));
       }
+
+-- the first k elements, and then the rest
+pub few-long : {n k : ℕ} → k ≤ 16 → 80 ≤ n → k ≤ n
+few-long h g = omega arith
+
+pub few-room : {A : Type 0} (ys d : List A) (at k : ℕ) → at + length ys ≤ length d → k ≤ length ys → at + length (take k ys) ≤ length d
+few-room ys d at k r h = omega (arith, length-take-le k ys h)
+
+module _ {A : Type 0} {ys d e g : List A} {at : ℕ} where
+  pub copy-both : (k : ℕ) → Put d at (take k ys) e → Put e (at + k) (take (length ys - k) (drop k ys)) g
+      → k ≤ 16 → 80 ≤ length ys → at + length ys ≤ length d → Put d at ys g
+  copy-both k p q l n r =
+      let h = length-take-le k ys (omega arith) in
+      let u = take-all (length ys - k) (drop k ys) (omega (arith, length-drop k ys)) in
+      subst (λ (l : List A). Put d at l g)
+      (ap (λ (l : List A). take k ys ++ l) u ∙ take-append-drop k ys)
+      (put-next p q (omega arith) (omega (arith, ap length u, length-drop k ys)))
+
+pub ruleset few-copying = (few-long, few-room, length-take-le, copy-both)
 
 pub ruleset behind = (first-room, second-room, both-end, next-room, other-room, both-put)
 

@@ -132,21 +132,45 @@ fn put_many(out: &mut [u8], at: usize, bytes: &[u8], i: usize)
 
 // Copies a run of bytes to a place, 64 at a turn. The last 64 are then copied whole, some
 // perhaps a second time, so that none is left over.
-pub fn put_bytes(out: &mut [u8], at: usize, bytes: &[u8])
+fn put_turns(out: &mut [u8], at: usize, bytes: &[u8])
     requires { ⌜ at + length (now bytes) ≤ length (now out) ⌝ }
+    requires { ⌜ 64 ≤ length (now bytes) ⌝ }
     ensures { λ _. ⌜ Put (now (out .entry)) at (now (bytes .entry)) (now (out .exit)) ⌝ }
 {
     let n = bytes.len();
-    if n < 64 {
-        put_few(out, at, bytes);
-        return;
-    }
     let mut i = 0;
     while 64 < n - i {
         put_many(out, at + i, bytes, i);
         i += 64;
     }
-    put_many(out, at + (n - 64), bytes, n - 64);
+    let last = n - 64;
+    put_many(out, at + last, bytes, last);
+}
+
+// How many bytes there are from a place to a multiple of sixteen behind it.
+fn to_sixteen(at: usize) -> usize
+    ensures { λ r. ⌜ r ≤ 16 ⌝ }
+{
+    16 - at % 16
+}
+
+// Copies a run of bytes to a place. The first few go ahead of the turns, which then start at a
+// multiple of sixteen, where a machine stores fastest.
+pub fn put_bytes(out: &mut [u8], at: usize, bytes: &[u8])
+    requires { ⌜ at + length (now bytes) ≤ length (now out) ⌝ }
+    ensures { λ _. ⌜ Put (now (out .entry)) at (now (bytes .entry)) (now (out .exit)) ⌝ }
+{
+    let n = bytes.len();
+    if n < 80 {
+        put_few(out, at, bytes);
+        return;
+    }
+    let few = to_sixteen(at);
+    let first = &bytes[..few];
+    let rest = &bytes[few..];
+    let behind = at + few;
+    put_few(out, at, first);
+    put_turns(out, behind, rest);
 }
 
 // The 64-bit number at a place.

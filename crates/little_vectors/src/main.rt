@@ -96,9 +96,9 @@ fn main() {
     put_u16(&mut out, 8, 32768);
     put_u16(&mut out, 1, 258);
     put_bytes(&mut out, 0, b"\x00\xff\x01\x80\x7f\x02\x03\x04\x05\x06");
-    copy(b"abcdefghijklmnopqrstuvwxyz0123456789ABCDEFGHIJKLMNOPQRSTUVWXYZ-");
-    copy(b"abcdefghijklmnopqrstuvwxyz0123456789ABCDEFGHIJKLMNOPQRSTUVWXYZ-+");
-    copy(b"abcdefghijklmnopqrstuvwxyz0123456789ABCDEFGHIJKLMNOPQRSTUVWXYZ-+.");
+    copy(b"abcdefghijklmnopqrstuvwxyz0123456789ABCDEFGHIJKLMNOPQRSTUVWXYZ-++-ZYXWVUTSRQPON");
+    copy(b"abcdefghijklmnopqrstuvwxyz0123456789ABCDEFGHIJKLMNOPQRSTUVWXYZ-++-ZYXWVUTSRQPONM");
+    copy(b"abcdefghijklmnopqrstuvwxyz0123456789ABCDEFGHIJKLMNOPQRSTUVWXYZ-++-ZYXWVUTSRQPONM.");
     copy(
         b"abcdefghijklmnopqrstuvwxyz0123456789ABCDEFGHIJKLMNOPQRSTUVWXYZ-++-ZYXWVUTSRQPONMLKJIHGFEDCBA9876543210zyxwvutsrqponmlkjihgfedcba",
     );

@@ -1,21 +1,23 @@
--- The first i bytes are copied, the rest of the buffer is as it was; every turn copies 64 more, and the last 64 go over what is there.
-use Prim.Native.Nat.{_-_}
-use Rattle.little.proofs.Filling.{Written, parts-copying}
+-- The first few bytes are copied to the place, and the rest behind them.
+use Rattle.little.proofs.Filling.{few-copying}
 use borrow.Author.Needs.{needs}
 use Rattle.little.proofs.put_bytes.Statement.{statement}
 use Rattle.little.proofs.put_bytes.Tie as tie
 
-abbrev Inv-loop : tie.InvT-loop
-Inv-loop out₀ at bytes n i₀ out i = Written bytes at i out out₀
-
-abbrev μ-loop : tie.MeasureT-loop
-μ-loop out₀ at bytes n i₀ out i = n - i
-
 pub put-bytes-spec : {M : Type 1} → statement M
 put-bytes-spec =
     tie.close
-    (tie.spec Inv-loop μ-loop (λ c κs. search (needs, parts-copying)) (λ c. search (needs, parts-copying))
-    (λ c. search (needs, parts-copying)) (λ c. search (needs, parts-copying)) (λ c. search (needs, parts-copying))
-    (λ c. search (needs, parts-copying)) (λ c κs. search (needs, parts-copying)) (λ c. search (needs, parts-copying))
-    (λ c. search (needs, parts-copying)) (λ c. search (needs, parts-copying)) (λ c. search (needs, parts-copying))
-    (λ c κs. search (needs, parts-copying)) (λ c. search (needs, parts-copying)) (λ c. search (needs, parts-copying)))
+    (tie.spec
+    (λ c κs. search (needs, few-copying))
+    (λ c. search (needs, few-copying))
+    (λ c. search (needs, few-copying))
+    (λ c κs. search (needs, few-copying))
+    (λ c. search (needs, few-copying))
+    (λ c. search (needs, few-copying))
+    (λ c. search (needs, few-copying))
+    (λ c. search (needs, few-copying))
+    (λ c. search (needs, few-copying))
+    (λ c κs. search (needs, few-copying))
+    (λ c κs. search (needs, few-copying))
+    (λ c. search (needs, few-copying))
+    (λ c. search (needs, few-copying)))
