@@ -1,8 +1,8 @@
 //! Whole files made of whole files: the sound as a 16-bit WAVE file, the approval copy, the empty side.
 //!
-//! A file is first written around a silence, and the sound is then made in its place: so there is never
-//! more in memory than the file that is read and the one that is written. Nothing reads the silence twice,
-//! and memory that is only read from takes none.
+//! A file is first written around a silence, and the sound is then made in its place: so the sound is never
+//! in memory twice. The silence takes no memory, as it is only read. Sound that is not 16-bit PCM must be decoded
+//! as a whole before it is encoded; only then is there more in memory than the two files.
 use crate::operations::{
     coded_bytes, decode, decode_into, encode_into, read, samples_in, samples_per_block, sound_of, sound_place, write,
     Fault,
@@ -55,24 +55,31 @@ enum Samples {
     Decoded(Room<i16>),
 }
 
+/// Samples before it is settled who keeps the file.
+enum Found {
+    There(Range<usize>),
+    Decoded(Room<i16>),
+}
+
 impl Heard {
     /// Takes the file, so that it can be dropped as soon as it is decoded; one that is refused is given back.
     pub fn of(file: Room<u8>) -> Result<Heard, (Room<u8>, Fault)> {
-        let heard = || -> Result<_, Fault> {
-            let record = read(&file)?;
-            if record.format.is_sixteen_bit() {
-                return Ok((record, Err(sound_place(&file)?)));
-            }
-            if samples_in(record.frames, &record.format) > MOST_SAMPLES {
-                return Err(Refusal::LengthOutOfRange.into());
-            }
-            Ok((record, Ok(decode(&file)?)))
-        };
-        match heard() {
-            Ok((record, Ok(decoded))) => Ok(Heard { record, samples: Samples::Decoded(decoded) }),
-            Ok((record, Err(place))) => Ok(Heard { record, samples: Samples::InFile(file, place) }),
+        match Heard::found(&file) {
+            Ok((record, Found::There(place))) => Ok(Heard { record, samples: Samples::InFile(file, place) }),
+            Ok((record, Found::Decoded(samples))) => Ok(Heard { record, samples: Samples::Decoded(samples) }),
             Err(fault) => Err((file, fault)),
         }
+    }
+
+    fn found(file: &[u8]) -> Result<(Record, Found), Fault> {
+        let record = read(file)?;
+        if record.format.is_sixteen_bit() {
+            return Ok((record, Found::There(sound_place(file)?)));
+        }
+        if samples_in(record.frames, &record.format) > MOST_SAMPLES {
+            return Err(Refusal::LengthOutOfRange.into());
+        }
+        Ok((record, Found::Decoded(decode(file)?)))
     }
 
     /// The samples, the channels in turn.
