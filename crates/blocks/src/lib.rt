@@ -11,8 +11,9 @@ ghost use lib.ListN.{length, drop, getD};
 ghost use Rattle.little.specs.Writing.{Put};
 ghost use Rattle.lists.specs.Turns.{inTurn};
 ghost use Rattle.samples.specs.Sound.{sampleAt};
-ghost use Rattle.steps.specs.Code.{steps};
+ghost use Rattle.steps.specs.Code.{steps, heldIndices};
 ghost use Rattle.blocks.specs.Block.{samplesPerBlock, channelPart, headersFine, heard, framesIn};
+use steps::HELD;
 use steps::State;
 use steps::decode_code;
 
@@ -46,11 +47,13 @@ fn mono_codes(
     block: &[u8],
     frames: usize,
     table: &[u16; 89],
+    held: &[u8; 98],
     from: State,
     out: &mut [i16],
     at: usize,
 )
-    requires { ⌜ (frames + 8 ≤ 2 * length (now block)) × (at + frames ≤ length (now out)) × (from .index < 89) × (now table ≡ steps) ⌝ }
+    requires { ⌜ (frames + 8 ≤ 2 * length (now block)) × (at + frames ≤ length (now out)) × (from .index < 89)
+        × (now table ≡ steps) × (now held ≡ heldIndices) ⌝ }
     ensures { λ _. ⌜ Put (now (out .entry)) at (inTurn 1 frames (heard from (drop 4 (now (block .entry))) ∷ [])) (now (out .exit)) ⌝ }
 {
     let mut state = from;
@@ -59,8 +62,8 @@ fn mono_codes(
     let mut i = 4;
     while 2 <= left {
         let byte = block[i];
-        let low = decode_code(state, (byte % 16) as u32, table);
-        let high = decode_code(low, (byte / 16) as u32, table);
+        let low = decode_code(state, (byte % 16) as u32, table, held);
+        let high = decode_code(low, (byte / 16) as u32, table, held);
         let x = low.last;
         let y = high.last;
         out[to] = x;
@@ -71,7 +74,7 @@ fn mono_codes(
         i += 1;
     }
     if left == 1 {
-        let next = decode_code(state, (block[i] % 16) as u32, table);
+        let next = decode_code(state, (block[i] % 16) as u32, table, held);
         let x = next.last;
         out[to] = x;
     }
@@ -82,13 +85,14 @@ fn stereo_codes(
     block: &[u8],
     frames: usize,
     table: &[u16; 89],
+    held: &[u8; 98],
     left: State,
     right: State,
     out: &mut [i16],
     at: usize,
 )
     requires { ⌜ (frames + 8 ≤ length (now block)) × (length (now block) % 8 ≡ 0) × (at + 2 * frames ≤ length (now out))
-        × (left .index < 89) × (right .index < 89) × (now table ≡ steps) ⌝ }
+        × (left .index < 89) × (right .index < 89) × (now table ≡ steps) × (now held ≡ heldIndices) ⌝ }
     ensures { λ _. ⌜ Put (now (out .entry)) at
         (inTurn 1 frames (heard left (drop 4 (channelPart 2 (now (block .entry)) 0)) ∷ heard right (drop 4 (channelPart 2 (now (block .entry)) 1)) ∷ []))
         (now (out .exit)) ⌝ }
@@ -102,10 +106,10 @@ fn stereo_codes(
         let from = 8 + i + 4 * (i / 4);
         let p = block[from];
         let q = block[from + 4];
-        let a = decode_code(l, (p % 16) as u32, table);
-        let b = decode_code(r, (q % 16) as u32, table);
-        let c = decode_code(a, (p / 16) as u32, table);
-        let d = decode_code(b, (q / 16) as u32, table);
+        let a = decode_code(l, (p % 16) as u32, table, held);
+        let b = decode_code(r, (q % 16) as u32, table, held);
+        let c = decode_code(a, (p / 16) as u32, table, held);
+        let d = decode_code(b, (q / 16) as u32, table, held);
         let x = a.last;
         let y = b.last;
         let z = c.last;
@@ -122,8 +126,8 @@ fn stereo_codes(
     }
     if n == 1 {
         let from = 8 + i + 4 * (i / 4);
-        let a = decode_code(l, (block[from] % 16) as u32, table);
-        let b = decode_code(r, (block[from + 4] % 16) as u32, table);
+        let a = decode_code(l, (block[from] % 16) as u32, table, held);
+        let b = decode_code(r, (block[from + 4] % 16) as u32, table, held);
         let x = a.last;
         let y = b.last;
         out[to] = x;
@@ -132,21 +136,28 @@ fn stereo_codes(
 }
 
 // Puts the first frames of a mono block at a place.
-fn mono(block: &[u8], frames: usize, table: &[u16; 89], out: &mut [i16], at: usize)
+fn mono(block: &[u8], frames: usize, table: &[u16; 89], held: &[u8; 98], out: &mut [i16], at: usize)
     requires { ⌜ (length (now block) % 4 ≡ 0) × (4 ≤ length (now block)) × (1 ≤ frames) × (frames ≤ samplesPerBlock 1 (length (now block)))
-        × (headersFine 1 (now block) ≡ true) × (now table ≡ steps) × (at + frames ≤ length (now out)) ⌝ }
+        × (headersFine 1 (now block) ≡ true) × (now table ≡ steps) × (now held ≡ heldIndices) × (at + frames ≤ length (now out)) ⌝ }
     ensures { λ _. ⌜ Put (now (out .entry)) at (framesIn 1 frames (now (block .entry))) (now (out .exit)) ⌝ }
 {
     let state = opened_at(block, 0);
     let x = state.last;
     out[at] = x;
-    mono_codes(block, frames - 1, table, state, out, at + 1);
+    mono_codes(block, frames - 1, table, held, state, out, at + 1);
 }
 
 // Puts the first frames of a stereo block at a place.
-fn stereo(block: &[u8], frames: usize, table: &[u16; 89], out: &mut [i16], at: usize)
+fn stereo(
+    block: &[u8],
+    frames: usize,
+    table: &[u16; 89],
+    held: &[u8; 98],
+    out: &mut [i16],
+    at: usize,
+)
     requires { ⌜ (length (now block) % 8 ≡ 0) × (8 ≤ length (now block)) × (1 ≤ frames) × (frames ≤ samplesPerBlock 2 (length (now block)))
-        × (headersFine 2 (now block) ≡ true) × (now table ≡ steps) × (at + 2 * frames ≤ length (now out)) ⌝ }
+        × (headersFine 2 (now block) ≡ true) × (now table ≡ steps) × (now held ≡ heldIndices) × (at + 2 * frames ≤ length (now out)) ⌝ }
     ensures { λ _. ⌜ Put (now (out .entry)) at (framesIn 2 frames (now (block .entry))) (now (out .exit)) ⌝ }
 {
     let left = opened_at(block, 0);
@@ -155,11 +166,11 @@ fn stereo(block: &[u8], frames: usize, table: &[u16; 89], out: &mut [i16], at: u
     let y = right.last;
     out[at] = x;
     out[at + 1] = y;
-    stereo_codes(block, frames - 1, table, left, right, out, at + 2);
+    stereo_codes(block, frames - 1, table, held, left, right, out, at + 2);
 }
 
 // Puts the first frames of a block at a place. The table of steps is lent, so that it is copied once
-// for all blocks.
+// for all blocks; the short table of held indices is copied here.
 pub fn decode(
     block: &[u8],
     channels: usize,
@@ -173,9 +184,10 @@ pub fn decode(
         × (headersFine channels (now block) ≡ true) × (now table ≡ steps) × (at + channels * frames ≤ length (now out)) ⌝ }
     ensures { λ _. ⌜ Put (now (out .entry)) at (framesIn channels frames (now (block .entry))) (now (out .exit)) ⌝ }
 {
+    let held = HELD;
     if channels == 1 {
-        mono(block, frames, table, out, at);
+        mono(block, frames, table, &held, out, at);
         return;
     }
-    stereo(block, frames, table, out, at);
+    stereo(block, frames, table, &held, out, at);
 }

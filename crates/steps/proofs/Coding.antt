@@ -147,7 +147,7 @@ module _ (t : State) (d : Bool) (s m : ℕ) {y z : ℤ} {j : ℕ}
       → record { last = back w16 y; index = j } ≡ decoded t (cond d 8 0 + bitsFor s m)
   coded-is n b e h c k u l i =
       rw (← k)
-      (decoded-is t (cond d 8 0 + b) f g v a d n s e h (c ∙ sym (code-size d s b u)) (sym (code-sign d b u)) l
+      (decoded-is t (cond d 8 0 + b) f v d n s g a e h (c ∙ sym (code-size d s b u)) (sym (code-sign d b u)) l
       (i ∙ ap (indexFrom (t .index)) (sym (code-low d b u))))
 
 pub code-is : (d : Bool) (s m : ℕ) {p b : ℕ} → p ≡ cond d 8 0 → b ≡ bitsFor s m → p + b ≡ cond d 8 0 + bitsFor s m

@@ -1,21 +1,22 @@
 -- What a code does to a channel, in the words of the code, and that it keeps the channel in range. Assumes nothing.
 use mathlib.Core.Path.{_≡_, refl, _∙_, ap}
 use mathlib.Core.Bool.{Bool, true, false, cond}
+use mathlib.Core.List.{List}
 use Prim.Native.Nat.{ℕ, zero, suc, _+_, _-_, _*_, _/_, _%_, _≤_, _<_, min}
 use native.Mathlib.Nat.{zero-mul, one-mul, mul-le-mul-right}
 use native.Mathlib.Omega.{arith}
 use lib.Dec.{ltb, eqb}
-use lib.IntN.{ℤ, pos, negsuc, _+ℤ_, _-ℤ_}
+use lib.IntN.{ℤ, pos, negsuc, natAbs, _+ℤ_, _-ℤ_}
 use lib.ListN.{getD}
-use mir.Syntax.{w16, w32}
+use mir.Syntax.{w16, w32, w64}
 use mir.Val.{SFits, Fits, toZ}
 use mir.Facts.{toZ-ofZ, toZ-pos}
 use borrow.Author.Tests.{lt-ltb, le-ltb}
 use Rattle.samples.specs.Sound.{hold}
-use Rattle.samples.proofs.Signed.{Is, by-ltb, is-pos, is-negsuc, is-add, is-minus, is-neg, is-shift, is-unique, is-abs, is-read, fits, back, Near, near-fits, near-add, near-pos, fits-near}
-use Rattle.samples.proofs.Laws.{widened, wide-is, hold-fits}
+use Rattle.samples.proofs.Signed.{Is, by-ltb, is-pos, is-negsuc, is-add, is-minus, is-neg, is-shift, is-unique, is-abs, is-read, fits, back, Near, near-fits, near-add, near-pos, fits-near, cast-less}
+use Rattle.samples.proofs.Laws.{widened, wide-is, raised-fits, raised-above, raised, hold-is, hold-fits}
 use Rattle.steps.specs.declared.State.{State}
-use Rattle.steps.specs.Code.{stepAt, hasBit, sizeOf, signedBy, difference, changes, heldIndex, indexFrom, decoded}
+use Rattle.steps.specs.Code.{stepAt, hasBit, sizeOf, signedBy, difference, changes, heldIndex, indexFrom, heldFrom, heldIndices, decoded}
 use Rattle.steps.specs.Quality.{InRange}
 
 -- ---- the size of a difference: a bit is 0 or 1, and times its worth is its worth or nothing
@@ -124,7 +125,24 @@ module _ (i k : ℕ) where
     pub moved-kept : n ≤ 88 → n ≡ indexFrom i k
     moved-kept l = omega (arith, index-risen r h e)
 
-pub ruleset moving = (rise-none, rise-some, moved-top, moved-kept)
+-- the same by the table
+held-at : (i n k : ℕ) → k < n → getD (heldFrom i n) k 0 ≡ min (i + k - 1) 88
+held-at i zero k h = absurd (omega arith)
+held-at i (suc n) zero h = omega arith
+held-at i (suc n) (suc k) h = held-at (suc i) n k (omega arith) ∙ omega arith
+
+module _ {t : List ℕ} (e : t ≡ heldIndices) (i k r : ℕ) (h : k < 8) (g : i < 89) (d : r ≡ cond (ltb k 4) 0 (2 * k - 5)) (m : r ≤ 9) where
+  pub moved-by : getD t (i + r) 0 ≡ indexFrom i k
+  moved-by =
+      ap (λ (l : List ℕ). getD l (i + r) 0) e ∙ held-at 0 98 (i + r) (omega arith) ∙ omega (arith, index-risen i k r h d)
+
+  pub moved-below : getD t (i + r) 0 < 89
+  moved-below = omega (arith, moved-by, index-risen i k r h d)
+
+  pub moved-fits : Fits w64 (getD t (i + r) 0)
+  moved-fits = record { fits = omega (arith, moved-below) }
+
+pub ruleset moving = (rise-none, rise-some, moved-top, moved-kept, moved-by, moved-below, moved-fits)
 
 pub index-below : (i k : ℕ) → indexFrom i k < 89
 unfolding indexFrom
@@ -133,6 +151,60 @@ index-below i k = below (pos i +ℤ getD changes k (pos 0))
     below : (z : ℤ) → heldIndex z < 89
     below (pos n) = omega arith
     below (negsuc n) = omega arith
+
+-- ---- a sample as a number from 0 on, and back
+module _ {z : ℤ} (f : SFits w16 z) where
+  up : Is (back w32 (back w16 z) +ℤ pos 32768) (raised f .u) 0
+  up = rw (wide-is f) (is-shift (raised f .u) 0 (is-add (raised f .is) (is-pos 32768)) (omega arith))
+
+  pub up-fits : Fits w16 (natAbs (back w32 (back w32 (back w16 z) +ℤ pos 32768)))
+  up-fits = rw (toZ-ofZ (raised-fits f 32768 tt)) (record { fits = omega (arith, is-abs up, raised f .below) })
+
+  pub up-is : natAbs (back w32 (back w32 (back w16 z) +ℤ pos 32768)) ≡ natAbs (z +ℤ pos 32768)
+  up-is = rw (toZ-ofZ (raised-fits f 32768 tt), wide-is f) refl
+
+pub ruleset raising = (widened, raised-fits, raised-above, up-fits, up-is)
+
+module _ {n : ℕ} (h : Fits w16 n) where
+  down : Is (toZ w32 n -ℤ pos 32768) n 32768
+  down = is-shift n 32768 (is-minus (is-read w32 {n = n} (omega (arith, h .fits))) (is-pos 32768)) (omega arith)
+
+  pub down-wide : SFits w32 (toZ w32 n -ℤ pos 32768)
+  down-wide = cast-less w32 w16 32768 h tt tt
+
+  pub down-fits : SFits w16 (back w32 (toZ w32 n -ℤ pos 32768))
+  down-fits = rw (toZ-ofZ down-wide) (fits w16 down (omega (arith, h .fits)) (omega arith))
+
+  pub down-is : back w16 (back w32 (toZ w32 n -ℤ pos 32768)) ≡ pos n -ℤ pos 32768
+  down-is =
+      toZ-ofZ down-fits ∙ toZ-ofZ down-wide
+      ∙ is-unique down (is-shift n 32768 (is-minus (is-pos n) (is-pos 32768)) (omega arith))
+
+pub ruleset lowering = (down-wide, down-fits, down-is)
+
+-- moved by a size and held: on the number from 0 on it is truncated minus, upward in the mirror
+pub mirrored-up : {d : Bool} (n : ℕ) → d ≡ false → 65535 - n ≡ cond d n (65535 - n)
+mirrored-up n e = simp e
+
+module _ {z : ℤ} (f : SFits w16 z) (n u v w x : ℕ) (a : u ≡ natAbs (back w16 z +ℤ pos 32768)) where
+  raised-is : u ≡ raised f .u
+  raised-is = a ∙ rw (toZ-ofZ f) (omega (arith, is-abs (is-add (raised f .is) (is-pos 32768))))
+
+  moved-is : (d : Bool) → v ≡ cond d u (65535 - u) → w ≡ v - n → x ≡ cond d w (65535 - w)
+      → Is (hold (z +ℤ signedBy d n)) x 32768
+  unfolding signedBy
+  moved-is true b c e =
+      is-shift x 32768 (hold-is (is-add (raised f .is) (is-neg (is-pos n)))) (omega (arith, raised f .below, raised-is))
+  moved-is false b c e =
+      is-shift x 32768 (hold-is (is-add (raised f .is) (is-pos n))) (omega (arith, raised f .below, raised-is))
+
+  pub moved-held : {y : ℤ} (d : Bool) → SFits w16 y → v ≡ cond d u (65535 - u) → w ≡ v - n → x ≡ cond d w (65535 - w)
+      → y ≡ pos x -ℤ pos 32768 → back w16 y ≡ hold (z +ℤ signedBy d n)
+  moved-held d g b c e h =
+      toZ-ofZ g ∙ h
+      ∙ is-unique (is-shift x 32768 (is-minus (is-pos x) (is-pos 32768)) (omega arith)) (moved-is d b c e)
+
+pub ruleset mirroring = (mirrored-up, moved-held)
 
 -- ---- a difference added to the last sample
 near-signed : (d : Bool) {n : ℕ} → n ≤ 65535 → Near (signedBy d n) 65535
@@ -151,21 +223,31 @@ module _ {x z : ℤ} (f : SFits w16 x) (g : SFits w32 z) (d : Bool) (n : ℕ) (e
   sum-is = toZ-ofZ sum-fits ∙ plain-sum
 
 -- the channel after it
-module _ (t : State) (k : ℕ) {y z : ℤ} {j : ℕ} (f : SFits w16 (t .last)) (g : SFits w32 z) (v : SFits w16 y)
-    (a : y ≡ hold (back w32 (back w32 (back w16 (t .last)) +ℤ back w32 z))) where
-  pub decoded-is : (d : Bool) (n s : ℕ) → z ≡ signedBy d n → n ≤ 65535 → n ≡ sizeOf s k
+module _ (t : State) (k : ℕ) {y : ℤ} {j : ℕ} (f : SFits w16 (t .last)) (v : SFits w16 y) (d : Bool) (n s : ℕ) where
+  moved-to : y ≡ hold (t .last +ℤ signedBy d n) → n ≡ sizeOf s k
       → d ≡ hasBit k 8 → s ≡ stepAt (t .index) → j ≡ indexFrom (t .index) (k % 8)
       → record { last = back w16 y; index = j } ≡ decoded t k
   unfolding decoded difference
-  decoded-is d n s e h b c l m =
-      let p : back w16 y ≡ hold (t .last +ℤ signedBy d n) = toZ-ofZ v ∙ a ∙ ap hold (sum-is f g d n e h) in
+  moved-to a b c l m =
+      let p : back w16 y ≡ hold (t .last +ℤ signedBy d n) = toZ-ofZ v ∙ a in
       simp (p, b, c, l, m)
+
+  pub decoded-by : y ≡ hold (back w16 (t .last) +ℤ signedBy d n) → n ≡ sizeOf s k
+      → d ≡ hasBit k 8 → s ≡ stepAt (t .index) → j ≡ indexFrom (t .index) (k % 8)
+      → record { last = back w16 y; index = j } ≡ decoded t k
+  decoded-by a = moved-to (a ∙ ap (λ (x : ℤ). hold (x +ℤ signedBy d n)) (toZ-ofZ f))
+
+  pub decoded-is : {z : ℤ} → SFits w32 z → y ≡ hold (back w32 (back w32 (back w16 (t .last)) +ℤ back w32 z))
+      → z ≡ signedBy d n → n ≤ 65535 → n ≡ sizeOf s k
+      → d ≡ hasBit k 8 → s ≡ stepAt (t .index) → j ≡ indexFrom (t .index) (k % 8)
+      → record { last = back w16 y; index = j } ≡ decoded t k
+  decoded-is g a e h = moved-to (a ∙ ap hold (sum-is f g d n e h))
 
 pub has-sign : (k : ℕ) → eqb (k / 8 % 2) 1 ≡ hasBit k 8
 unfolding hasBit
 has-sign k = refl
 
-pub ruleset decoding = (sum-fits, widened, size-low, decoded-is, has-sign)
+pub ruleset decoding = (size-low, decoded-by, has-sign)
 
 -- ---- whatever the channel before
 pub decoded-in-range : (t : State) (k : ℕ) → InRange (decoded t k)

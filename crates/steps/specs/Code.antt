@@ -1,5 +1,5 @@
 -- One IMA code: its difference, the channel after it, and the code of a sample. Assumes nothing.
-use Prim.Native.Nat.{ℕ, _+_, _-_, _*_, _/_, _%_, min}
+use Prim.Native.Nat.{ℕ, zero, suc, _+_, _-_, _*_, _/_, _%_, min}
 use mathlib.Core.Bool.{Bool, cond}
 use mathlib.Core.List.{List, [], _∷_}
 use lib.Dec.{leb, eqb}
@@ -51,6 +51,15 @@ heldIndex (negsuc n) = 0
 
 unfoldable pub indexFrom : ℕ → ℕ → ℕ
 indexFrom i low = heldIndex (pos i +ℤ getD changes low (pos 0))
+
+-- numbers from i on, one less each and held within 0..88
+abbrev pub heldFrom : ℕ → ℕ → List ℕ
+heldFrom i zero = []
+heldFrom i (suc n) = min (i - 1) 88 ∷ heldFrom (suc i) n
+
+-- so that an index and one more than its move lead to the index after it
+abbrev pub heldIndices : List ℕ
+heldIndices = heldFrom 0 98
 
 -- a channel after code k: the difference added to the last sample and held, and the index moved
 unfoldable pub decoded : State → ℕ → State

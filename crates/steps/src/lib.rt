@@ -3,7 +3,9 @@ ghost use mathlib.Core.Path.{_≡_};
 ghost use mathlib.Core.Bool.{cond};
 ghost use Prim.Native.Nat.{_+_, _-_, _*_, _≤_, _<_};
 ghost use lib.Dec.{ltb, leb};
-ghost use Rattle.steps.specs.Code.{steps, stepAt, sizeOf, signedBy, indexFrom, decoded, bitsFor, codeFor, tracked, isChased};
+ghost use lib.IntN.{pos, natAbs, _+ℤ_, _-ℤ_};
+ghost use Rattle.samples.specs.Sound.{hold};
+ghost use Rattle.steps.specs.Code.{steps, heldIndices, stepAt, sizeOf, signedBy, indexFrom, decoded, bitsFor, codeFor, tracked, isChased};
 
 // A channel between two codes: its last sample, and the index of its step.
 pub struct State {
@@ -116,6 +118,109 @@ pub const STEPS: [u16; 89] = [
     32767,
 ];
 
+// One less than each number up to 97, held within 0..88: an index and one more than its move lead to
+// the index after it.
+pub const HELD: [u8; 98] = [
+    0,
+    0,
+    1,
+    2,
+    3,
+    4,
+    5,
+    6,
+    7,
+    8,
+    9,
+    10,
+    11,
+    12,
+    13,
+    14,
+    15,
+    16,
+    17,
+    18,
+    19,
+    20,
+    21,
+    22,
+    23,
+    24,
+    25,
+    26,
+    27,
+    28,
+    29,
+    30,
+    31,
+    32,
+    33,
+    34,
+    35,
+    36,
+    37,
+    38,
+    39,
+    40,
+    41,
+    42,
+    43,
+    44,
+    45,
+    46,
+    47,
+    48,
+    49,
+    50,
+    51,
+    52,
+    53,
+    54,
+    55,
+    56,
+    57,
+    58,
+    59,
+    60,
+    61,
+    62,
+    63,
+    64,
+    65,
+    66,
+    67,
+    68,
+    69,
+    70,
+    71,
+    72,
+    73,
+    74,
+    75,
+    76,
+    77,
+    78,
+    79,
+    80,
+    81,
+    82,
+    83,
+    84,
+    85,
+    86,
+    87,
+    88,
+    88,
+    88,
+    88,
+    88,
+    88,
+    88,
+    88,
+    88,
+];
+
 // A value where a bit is set, else 0.
 fn part(on: bool, value: u32) -> u32
     ensures { λ r. ⌜ (r ≡ cond on value 0) × (r ≤ value) ⌝ }
@@ -191,17 +296,69 @@ fn moved(index: usize, low: u32) -> usize
     next
 }
 
-// A channel after a code. The table of steps is lent, so that a loop copies it once and for all.
-pub fn decode_code(state: State, code: u32, table: &[u16; 89]) -> State
-    requires { ⌜ (state .index < 89) × (now table ≡ steps) ⌝ }
+// The same by a table, which decoding lends: the back end would make branches of the tests.
+fn moved_by(index: usize, low: u32, held: &[u8; 98]) -> usize
+    requires { ⌜ (index < 89) × (low < 8) × (now held ≡ heldIndices) ⌝ }
+    ensures { λ r. ⌜ (r ≡ indexFrom index low) × (r < 89) ⌝ }
+{
+    held[index + rise(low)] as usize
+}
+
+// A sample as a number from 0 on.
+fn raised(sample: i16) -> u16
+    ensures { λ r. ⌜ r ≡ natAbs (sample +ℤ pos 32768) ⌝ }
+{
+    (sample as i32 + 32768) as u16
+}
+
+// The sample of such a number.
+fn lowered(number: u16) -> i16
+    ensures { λ r. ⌜ r ≡ pos number -ℤ pos 32768 ⌝ }
+{
+    (number as i32 - 32768) as i16
+}
+
+// Such a number for the way down, and its mirror image for the way up.
+fn mirrored(down: bool, number: u16) -> u16
+    ensures { λ r. ⌜ r ≡ cond down number (65535 - number) ⌝ }
+{
+    if down {
+        return number;
+    }
+    65535 - number
+}
+
+// A number less a size, where it is not below it.
+fn less(number: u16, size: u16) -> u16
+    ensures { λ r. ⌜ r ≡ number - size ⌝ }
+{
+    if number < size {
+        return 0;
+    }
+    number - size
+}
+
+// A sample moved by a size, and held to 16 bits. In the mirror the way up is a way down, so that both
+// ways go the same way and have one bound to test.
+fn moved_sample(sample: i16, down: bool, size: u32) -> i16
+    requires { ⌜ size ≤ 65535 ⌝ }
+    ensures { λ r. ⌜ r ≡ hold (sample +ℤ signedBy down size) ⌝ }
+{
+    let from = mirrored(down, raised(sample));
+    let to = less(from, size as u16);
+    lowered(mirrored(down, to))
+}
+
+// A channel after a code. The tables are lent, so that a loop copies them once and for all.
+pub fn decode_code(state: State, code: u32, table: &[u16; 89], held: &[u8; 98]) -> State
+    requires { ⌜ (state .index < 89) × (now table ≡ steps) × (now held ≡ heldIndices) ⌝ }
     ensures { λ r. ⌜ (r ≡ decoded state code) × (r .index < 89) ⌝ }
 {
     let index = state.index;
-    let step = table[index] as u32;
     let low = code % 8;
-    let difference = toward(code / 8 % 2 == 1, size(step, low));
-    let next = moved(index, low);
-    let last = samples::held(state.last as i32 + difference);
+    let next = moved_by(index, low, held);
+    let step = table[index] as u32;
+    let last = moved_sample(state.last, code / 8 % 2 == 1, size(step, low));
     State {
         last: last,
         index: next,

@@ -5,11 +5,11 @@ use Rattle.blocks.proofs.mono_codes.Statement.{statement}
 use Rattle.blocks.proofs.mono_codes.Tie as tie
 
 abbrev Inv-loop : tie.InvT-loop
-Inv-loop block frames table out₀ at state₀ left₀ to₀ i₀ out state left to i =
+Inv-loop block frames table held out₀ at state₀ left₀ to₀ i₀ out state left to i =
     Single block frames out₀ at state₀ out state left to i
 
 abbrev μ-loop : tie.MeasureT-loop
-μ-loop block frames table out₀ at state₀ left₀ to₀ i₀ out state left to i = left
+μ-loop block frames table held out₀ at state₀ left₀ to₀ i₀ out state left to i = left
 
 pub mono-codes-spec : {M : Type 1} → statement M
 mono-codes-spec =

@@ -6,11 +6,11 @@ use Rattle.blocks.proofs.stereo_codes.Statement.{statement}
 use Rattle.blocks.proofs.stereo_codes.Tie as tie
 
 abbrev Inv-loop : tie.InvT-loop
-Inv-loop block frames table out₀ at l₀ r₀ n₀ to₀ i₀ out l r n to i =
+Inv-loop block frames table held out₀ at l₀ r₀ n₀ to₀ i₀ out l r n to i =
     Double block frames out₀ at l₀ r₀ out l r n to i
 
 abbrev μ-loop : tie.MeasureT-loop
-μ-loop block frames table out₀ at l₀ r₀ n₀ to₀ i₀ out l r n to i = n
+μ-loop block frames table held out₀ at l₀ r₀ n₀ to₀ i₀ out l r n to i = n
 
 slice-set-from-y : tie.Need-slice-set-from-y Inv-loop μ-loop
 slice-set-from-y c =

@@ -1,4 +1,4 @@
--- A step is at most 32767, so the sum fits; the sum held and the index moved are the definition.
+-- A step is at most 32767; the sample moved and the index moved are the definition.
 use Rattle.steps.proofs.Table.{reading}
 use Rattle.steps.proofs.Laws.{decoding}
 use borrow.Author.Needs.{needs}
@@ -8,6 +8,11 @@ use Rattle.steps.proofs.decode_code.Tie as tie
 pub decode-code-spec : {M : Type 1} → statement M
 decode-code-spec =
     tie.close
-    (tie.spec (λ c. search needs) (λ c. search needs) (λ c. search (needs, reading))
-    (λ c κs. search (needs, reading)) (λ c κs. search needs) (λ c κs. search needs) (λ c. search (needs, decoding))
-    (λ c. search (needs, decoding)) (λ c κs. search needs) (λ c. search (needs, reading, decoding)))
+    (tie.spec
+    (λ c κs. search (needs, reading, decoding))
+    (λ c. search (needs, reading, decoding))
+    (λ c. search (needs, reading, decoding))
+    (λ c. search (needs, reading, decoding))
+    (λ c κs. search (needs, reading, decoding))
+    (λ c κs. search (needs, reading, decoding))
+    (λ c. search (needs, reading, decoding)))
