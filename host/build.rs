@@ -1,8 +1,10 @@
 //! Links the proved library, which `rt staticlib wave_c` makes.
-use std::path::Path;
+use std::path::PathBuf;
 
 fn main() {
-    let folder = Path::new(env!("CARGO_MANIFEST_DIR")).join("../target/staticlib");
+    // Where the package is now, and not where this was built.
+    let package = PathBuf::from(std::env::var_os("CARGO_MANIFEST_DIR").expect("cargo says where the package is"));
+    let folder = package.join("../target/staticlib");
     let archive = folder.join("libwave_c.a");
     println!("cargo:rerun-if-changed={}", archive.display());
     println!("cargo:rustc-link-search=native={}", folder.display());

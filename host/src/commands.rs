@@ -28,37 +28,28 @@ fn told(facts: &[(&'static str, usize)]) -> Told {
     }
 }
 
-/// Runs a command; its exit status.
+/// Runs a command; its exit status, of several files that of the first that is not accepted.
 pub fn run(name: &str, call: &Call) -> u8 {
-    let mut status = 0;
-    for answer in answers(name, call) {
-        let said = say(name, call, answer);
-        status = if status == 0 { said } else { status };
+    let first = &call.words[0];
+    if call.command == "check" {
+        let said: Vec<u8> = call.words.iter().map(|file| say(name, call, file, check(file))).collect();
+        return said.into_iter().find(|status| *status != 0).unwrap_or(0);
     }
-    status
-}
-
-/// The answers of a command, each with the file that it is about: one, but for the files that are checked.
-fn answers<'a>(name: &'a str, call: &'a Call) -> Box<dyn Iterator<Item = (String, Answer)> + 'a> {
-    let about = shown(&call.words[0]);
-    match call.command {
-        "check" => Box::new(call.words.iter().map(|file| (shown(file), check(file)))),
-        "list" => one(about, list(&call.words[0])),
-        "decode" => one(about, decode(&call.words[0], &call.words[1])),
-        "encode" => one(about, encode(&call.words[0], &call.words[1], call)),
-        "add" => one(about, add(name, call)),
-        _ => one(about, new_side(name, call)),
-    }
-}
-
-fn one<'a>(about: String, answer: Answer) -> Box<dyn Iterator<Item = (String, Answer)> + 'a> {
-    Box::new(std::iter::once((about, answer)))
+    let answer = match call.command {
+        "list" => list(first),
+        "decode" => decode(first, &call.words[1]),
+        "encode" => encode(first, &call.words[1], call),
+        "add" => add(name, call),
+        _ => new_side(name, call),
+    };
+    say(name, call, first, answer)
 }
 
 // ---- what is said
 
-/// Prints an answer, and then on standard error what it means; its exit status.
-fn say(name: &str, call: &Call, (about, answer): (String, Answer)) -> u8 {
+/// Prints an answer about a file, and then on standard error what it means; its exit status.
+fn say(name: &str, call: &Call, about: &OsStr, answer: Answer) -> u8 {
+    let about = shown(about);
     let front = if call.words.len() > 1 && call.command == "check" { format!("{about}: ") } else { String::new() };
     let (lines, mut fields, meaning, status) = match answer {
         Ok(Told { lines, fields }) => (lines, fields, vec![], 0),
@@ -76,9 +67,9 @@ fn say(name: &str, call: &Call, (about, answer): (String, Answer)) -> u8 {
     } else {
         lines.iter().map(|line| format!("{front}{line}\n")).collect()
     };
-    let shown = print(name, &text);
+    let printed = print(name, &text);
     meaning.iter().for_each(|line| eprint(name, line));
-    shown.max(status)
+    printed.max(status)
 }
 
 /// A refusal for scripts.

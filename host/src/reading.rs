@@ -139,6 +139,7 @@ fn behind(room: &[u8], at: usize) -> usize {
 mod tests {
     use super::*;
     use std::io::Write;
+    use std::sync::atomic::{AtomicUsize, Ordering};
 
     fn chunk(code: &[u8; 4], data: &[u8]) -> Vec<u8> {
         let mut bytes = [&code[..], &(data.len() as u32).to_le_bytes(), data].concat();
@@ -148,7 +149,9 @@ mod tests {
 
     /// A room of what `heads` reads of some bytes that stand in a file behind others.
     fn glanced(bytes: &[u8]) -> Room<u8> {
-        let path = std::env::temp_dir().join(format!("tronalhet-heads-{}", std::process::id()));
+        static MADE: AtomicUsize = AtomicUsize::new(0);
+        let number = MADE.fetch_add(1, Ordering::SeqCst);
+        let path = std::env::temp_dir().join(format!("tronalhet-heads-{}-{number}", std::process::id()));
         File::create(&path).unwrap().write_all(&[b"before", bytes].concat()).unwrap();
         let mut room = Room::new(bytes.len()).unwrap();
         heads(&File::open(&path).unwrap(), 6, &mut room).unwrap();
