@@ -13,6 +13,7 @@ MEMORY_BAR = 'peak memory at most the files and 16 MiB'
 # A command, and the kinds of its input; `measure file` has them by these names.
 COMMANDS = [('list', ['pcm-16']), ('check', ['pcm-16']), ('decode', ['pcm-16']), ('decode', ['pcm-8']),
             ('decode', ['ima']), ('decode', ['microsoft']), ('encode', ['pcm-16']), ('encode', ['pcm-8']),
+            ('encode', ['ima']), ('encode', ['microsoft']),
             ('add', ['side', 'pcm-16'])]
 
 

@@ -127,6 +127,19 @@ def too_long(folder):
     emptied('too long', folder, ['eight.wav', 'side.wav', 'song.wav'])
 
 
+def in_parts(folder):
+    """A sound of 8 bits is encoded without being in memory as a whole in 16; silence gives blocks that are all alike."""
+    size, block = 100000000, second_ima.encode([-32768] * 2041, 1, 1024, MOST)[0]
+    blocks = -(-(size - 44) // 2041)
+    sparse(folder / 'eight.wav', size, head_of(size))
+    words, coded = ['encode', 'eight.wav', 'copy.wav'], 60 + 1024 * blocks
+    expect('8 bits in parts', measured('8 bits in parts', words, folder, size + coded + SPARE),
+           (0, [f'frames {size - 44}', f'bytes {coded}', 'chased left 0', 'chased right 0']))
+    made = (folder / 'copy.wav').read_bytes()
+    expect('the copy of 8 bits', (len(made), made[60:] == block * blocks), (coded, True))
+    emptied('in parts', folder, ['eight.wav', 'copy.wav'])
+
+
 # The songs of a full side, by number, each with how many bytes its sound has.
 FULL = {101: 99999996, 2**32 - 1: 98765432, 7: 4, 300: 102345680}
 FRAMES = sum(FULL.values()) // 4
@@ -305,5 +318,5 @@ def outlived(folder):
 def full_size():
     """Files as long as they may be, or nearly, in a folder of their own."""
     with tempfile.TemporaryDirectory(dir=room_for_files()) as name:
-        for part in (at_the_limit, streams, too_long, filled, refilled, copied, interrupted, outlived):
+        for part in (at_the_limit, streams, too_long, in_parts, filled, refilled, copied, interrupted, outlived):
             attempted(part, pathlib.Path(name))

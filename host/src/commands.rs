@@ -7,7 +7,7 @@ use crate::writing::Target;
 use crate::{eprint, TROUBLE};
 use std::ffi::OsStr;
 use tronalhet::places::{of_adding, Place, Which};
-use tronalhet::{Donation, Fault, Frames, Heard, Record, Refusal};
+use tronalhet::{Donation, Fault, Frames, Record, Refusal};
 
 /// How many bytes a block of an approval copy has where nothing else is said.
 const USUAL_ALIGN: u32 = 1024;
@@ -150,8 +150,8 @@ fn encode(from: &OsStr, to: &OsStr, call: &Call) -> Answer {
     let align = call.number("align").unwrap_or(USUAL_ALIGN) as u16;
     let target = Target::new(to)?;
     target.is_not(from, "IN")?;
-    let heard = Heard::of(whole(from)?).map_err(|(file, fault)| Stop::of_file(from, &file, fault))?;
-    let copy = tronalhet::approval_copy(&heard, align).map_err(|fault| not_copied(from, &heard, align, fault))?;
+    let file = whole(from)?;
+    let copy = tronalhet::approval_copy(&file, align).map_err(|fault| not_copied(from, &file, align, fault))?;
     target.write(&copy.file)?;
     Ok(told(&[
         ("frames", copy.frames.0 as usize),
@@ -161,16 +161,15 @@ fn encode(from: &OsStr, to: &OsStr, call: &Call) -> Answer {
     ]))
 }
 
-/// Why there is no copy: of a file that was read, only the align can be wrong.
-fn not_copied(from: &OsStr, heard: &Heard, align: u16, fault: Fault) -> Stop {
-    let step = 4 * heard.record.format.channels;
-    let what = format!("the align is {align}; {} to 4096 are taken, in steps of {step}", 2 * step);
-    match fault {
-        Fault::Refused(refusal @ Refusal::FormatWrong) => {
+/// Why there is no copy: where the format of a file is taken, 9 is said of the align.
+fn not_copied(from: &OsStr, file: &[u8], align: u16, fault: Fault) -> Stop {
+    match (fault, tronalhet::read(file)) {
+        (Fault::Refused(refusal @ Refusal::FormatWrong), Ok(record)) => {
+            let step = 4 * record.format.channels;
+            let what = format!("the align is {align}; {} to 4096 are taken, in steps of {step}", 2 * step);
             Stop::Refused { refusal, file: shown(from), place: Some(Place { what, ..Place::default() }) }
         }
-        Fault::Refused(refusal) => Stop::Refused { refusal, file: shown(from), place: None },
-        Fault::NoMemory(lack) => lack.into(),
+        _ => Stop::of_file(from, file, fault),
     }
 }
 

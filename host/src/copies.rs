@@ -1,12 +1,12 @@
 //! Whole files made of whole files: the sound as a 16-bit WAVE file, the approval copy, the empty side.
 //!
-//! A file is first written around a silence, and the sound is then made in its place: so the sound is never
-//! in memory twice. The silence takes no memory, as it is only read. Sound that is not 16-bit PCM must be decoded
-//! as a whole before it is encoded; only then is there more in memory than the two files.
+//! A file is first written around a silence, and the sound is then made in its place: so there is never more in memory
+//! than the file that is read and the one that is written. The silence takes no memory, as it is only read.
 use crate::operations::{
     coded_bytes, decode, decode_into, encode_into, read, samples_in, samples_per_block, sound_of, sound_place, write,
     Fault,
 };
+use crate::parts::{encode_parts, SHORTEST_LEAD_IN};
 use crate::record::{Format, Record};
 use crate::room::{as_samples, as_samples_mut, Room};
 use crate::units::{Frames, Refusal};
@@ -44,62 +44,32 @@ pub fn sixteen_bit(file: &[u8]) -> Result<(Room<u8>, Frames), Fault> {
     Ok((made, frames))
 }
 
-/// The sound of a file: where it stands in a file of 16-bit PCM, else decoded.
-pub struct Heard {
-    pub record: Record,
-    samples: Samples,
-}
-
-enum Samples {
-    InFile(Room<u8>, Range<usize>),
-    Decoded(Room<i16>),
-}
-
-/// Samples before it is settled who keeps the file.
-enum Found {
-    There(Range<usize>),
-    Decoded(Room<i16>),
-}
-
-impl Heard {
-    /// Takes the file, so that it can be dropped as soon as it is decoded; one that is refused is given back.
-    pub fn of(file: Room<u8>) -> Result<Heard, (Room<u8>, Fault)> {
-        match Heard::found(&file) {
-            Ok((record, Found::There(place))) => Ok(Heard { record, samples: Samples::InFile(file, place) }),
-            Ok((record, Found::Decoded(samples))) => Ok(Heard { record, samples: Samples::Decoded(samples) }),
-            Err(fault) => Err((file, fault)),
-        }
+/// The approval copy of a file, in IMA blocks of `align` bytes. It has no cues and no playlist.
+pub fn approval_copy(file: &[u8], align: u16) -> Result<ApprovalCopy, Fault> {
+    let old = read(file)?;
+    let (frames, Format { channels, rate, .. }) = (old.frames, old.format);
+    let count = samples_in(frames, &old.format);
+    if count > MOST_SAMPLES {
+        return Err(Refusal::LengthOutOfRange.into());
     }
-
-    fn found(file: &[u8]) -> Result<(Record, Found), Fault> {
-        let record = read(file)?;
-        if record.format.is_sixteen_bit() {
-            return Ok((record, Found::There(sound_place(file)?)));
-        }
-        if samples_in(record.frames, &record.format) > MOST_SAMPLES {
-            return Err(Refusal::LengthOutOfRange.into());
-        }
-        Ok((record, Found::Decoded(decode(file)?)))
-    }
-
-    /// The samples, the channels in turn.
-    pub fn samples(&self) -> &[i16] {
-        match &self.samples {
-            Samples::InFile(file, place) => as_samples(&file[place.clone()]).expect("a chunk stands at an even place"),
-            Samples::Decoded(samples) => samples,
-        }
-    }
-}
-
-/// The approval copy of a sound, in IMA blocks of `align` bytes. It has no cues and no playlist.
-pub fn approval_copy(heard: &Heard, align: u16) -> Result<ApprovalCopy, Fault> {
-    let (frames, Format { channels, rate, .. }) = (heard.record.frames, heard.record.format);
     let samples = samples_per_block(channels, align);
     let format = Format { tag: Format::IMA, channels, rate, bits: 4, align, samples };
-    let record = Record { format, frames, ..Record::default() };
-    let (mut file, place) = around_silence(&record, coded_bytes(heard.samples().len(), channels, align))?;
-    let (_, left, right) = encode_into(heard.samples(), channels, align, &mut file[place])?;
-    Ok(ApprovalCopy { file, frames, left, right })
+    let new = Record { format, frames, ..Record::default() };
+    let (mut made, place) = around_silence(&new, coded_bytes(count, channels, align))?;
+    let (left, right) = encode_sound(file, &old, align, &mut made[place])?;
+    Ok(ApprovalCopy { file: made, frames, left, right })
+}
+
+/// Encodes the sound of a file: 16-bit PCM where it stands, all else in parts. Blocks that are too short to lead into
+/// a part, which nobody uses, take the sound decoded as a whole.
+fn encode_sound(file: &[u8], record: &Record, align: u16, out: &mut [u8]) -> Result<(Frames, Frames), Fault> {
+    let (sound, channels) = (sound_of(file)?, record.format.channels);
+    let (_, left, right) = match as_samples(sound) {
+        Some(samples) if record.format.is_sixteen_bit() => encode_into(samples, channels, align, out)?,
+        _ if samples_per_block(channels, align) >= SHORTEST_LEAD_IN => return encode_parts(record, sound, align, out),
+        _ => encode_into(&decode(file)?, channels, align, out)?,
+    };
+    Ok((left, right))
 }
 
 /// A side without songs.

@@ -7,12 +7,13 @@
 mod boundary;
 mod copies;
 mod operations;
+mod parts;
 pub mod places;
 mod record;
 mod room;
 mod units;
 
-pub use copies::{approval_copy, empty_side, sixteen_bit, ApprovalCopy, Heard};
+pub use copies::{approval_copy, empty_side, sixteen_bit, ApprovalCopy};
 pub use operations::{add, decode, decode_block, encode, read, sound_of, sound_place, write, Coded, Fault};
 pub use record::{Cue, Format, Play, Record};
 pub use room::{NoMemory, Number, Room};

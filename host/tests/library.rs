@@ -1,7 +1,7 @@
 //! The library on document 01's own examples, and on what a caller in Rust would try.
 use tronalhet::{
     add, approval_copy, decode, decode_block, empty_side, encode, read, sixteen_bit, sound_of, write, Cue, Donation,
-    Fault, Format, Frames, Heard, Play, Record, Refusal, Room,
+    Fault, Format, Frames, Play, Record, Refusal, Room,
 };
 
 /// A record without cues.
@@ -113,7 +113,7 @@ fn a_copy_is_written_from_sound_in_any_format() {
     let sound: Vec<u8> = (0..2000u32).map(|place| (place * place % 256) as u8).collect();
     let eight = write(&eight_bit(2000), &sound).unwrap();
     let (sixteen, _) = sixteen_bit(&eight).unwrap();
-    let copies = [eight, sixteen].map(|file| approval_copy(&Heard::of(file).ok().unwrap(), 256).unwrap().file.to_vec());
+    let copies = [eight, sixteen].map(|file| approval_copy(&file, 256).unwrap().file.to_vec());
     assert_eq!(copies[0], copies[1]);
     assert_eq!(read(&copies[0]), Ok(ima_mono(256, 505, 2000)));
     let blocks: Vec<i16> = made(decode(&copies[0])).unwrap().into_iter().step_by(505).collect();
@@ -121,8 +121,43 @@ fn a_copy_is_written_from_sound_in_any_format() {
     assert_eq!(blocks, opening);
 }
 
+/// Bytes by chance, the same each time.
+fn some_bytes(count: usize) -> Vec<u8> {
+    let mut state = 1u32;
+    let next = |_| {
+        state = state.wrapping_mul(1_664_525).wrapping_add(1_013_904_223);
+        (state >> 24) as u8
+    };
+    (0..count).map(next).collect()
+}
+
+/// Packed sound of any bytes, but for the first of each header, which are in range.
+fn some_blocks(format: &Format, count: usize) -> Vec<u8> {
+    let mut sound = some_bytes(count * usize::from(format.align));
+    for block in sound.chunks_exact_mut(format.align.into()) {
+        for channel in 0..usize::from(format.channels) {
+            let (place, most) = if format.tag == 17 { (4 * channel + 2, 89) } else { (channel, 7) };
+            block[place] %= most;
+        }
+    }
+    sound
+}
+
 #[test]
-fn a_file_that_is_not_heard_is_given_back() {
-    let (file, fault) = Heard::of(Room::new(3).unwrap()).err().unwrap();
-    assert_eq!((&file[..], fault), (&[0; 3][..], Fault::Refused(Refusal::LengthOutOfRange)));
+fn a_copy_in_parts_is_the_copy_of_the_whole() {
+    let format = |tag, channels, bits, align, samples| Format { tag, channels, rate: 44100, bits, align, samples };
+    let formats =
+        [format(1, 2, 8, 2, 1), format(17, 1, 4, 256, 505), format(2, 2, 4, 128, 116), format(17, 2, 4, 1024, 1017)];
+    for format in formats {
+        let blocks = 700_000 / usize::from(format.samples);
+        let frames = (blocks * usize::from(format.samples)) as u32 - u32::from(format.samples) / 3;
+        let file = write(&record(format, frames), &some_blocks(&format, blocks)).unwrap();
+        let sound = decode(&file).unwrap();
+        for align in [16, 72, 1024, 4096] {
+            let copy = approval_copy(&file, align).unwrap();
+            let whole = encode(&sound, format.channels, align).unwrap();
+            assert!(sound_of(&copy.file).unwrap() == &whole.blocks[..]);
+            assert_eq!((copy.left, copy.right, copy.frames), (whole.left, whole.right, Frames(frames)));
+        }
+    }
 }
