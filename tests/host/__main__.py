@@ -1,0 +1,42 @@
+#!/usr/bin/env python3
+"""Runs the command tronalhet on files of other programs, at the borders of the rules, at full size and in trouble.
+
+    python3 -m host     in tests/, after `host/build`
+
+What it must print and write is worked out by tests/second/command.py, and where the fault of a refused file is by a
+walk of tests/host/places.py. The largest files are made on the fly, in a folder with room for them that is removed
+again. Permissions are tried as a user whom they stop. On another processor than x86-64 an emulator runs the command,
+and memory and time have no bounds.
+"""
+import sys
+
+from host.calls import called, called_wrongly, for_scripts, from_input, helps, names, no_numbers, slow_input
+from host.faults import block_places, other_refusals, placed, wrong_files, wrong_songs
+from host.files import checked, glanced, on_files, on_kept_sides, records
+from host.full_size import full_size
+from host.run import PROGRAM, attempted
+from host.together import elsewhere, many_decodes, ten_adds, ten_sides, two_adds, waits
+from host.trouble import (devices, hidden_folder, links, modes, new_names, no_memory, not_allowed, not_read, not_shown,
+                          not_written, same_file, shared, special_files)
+from host.trying import expect, report
+from host.wave import built_again, by_wave, demonstration, readme, wave_refuses
+from host.writing import flushed, full_disk, killed_in_write, living_parts, no_parts, really_full_disk
+
+PARTS = (on_files, on_kept_sides, records, checked, glanced, placed, block_places, wrong_files, wrong_songs,
+         other_refusals, names, for_scripts, from_input, slow_input, called_wrongly, no_numbers, called, helps,
+         not_read, not_written, special_files, same_file, links, new_names, modes, not_allowed, shared, devices,
+         hidden_folder, not_shown, no_memory, full_disk, really_full_disk, killed_in_write, living_parts, no_parts,
+         flushed, two_adds, waits, elsewhere, ten_adds, ten_sides, many_decodes,
+         by_wave, wave_refuses, demonstration, built_again, readme, full_size)
+
+
+def main():
+    """Runs all parts, where the command is built."""
+    expect('whether the command is there, which host/build makes', PROGRAM.exists(), True)
+    for part in PARTS if PROGRAM.exists() else ():
+        attempted(part)
+    return report('tests/host')
+
+
+if __name__ == '__main__':
+    sys.exit(main())

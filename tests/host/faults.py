@@ -1,0 +1,186 @@
+"""Files with one fault each: the command tells its number and its place. And why a song is not added."""
+import random
+
+from host.places import first, place_in, refusal_of, with_junk
+from host.run import MOST, does, refuses
+from host.trying import expect
+from second import command as second_command, reader as second_reader, side as second_side
+from second.command import answer
+from vectors import side_files, sound_files
+from vectors.wave_files import chunk, cue, data, entry, fact, fmt, ima, microsoft, plst, point, wave
+
+
+# ---- faults that are made by hand
+
+def faults():
+    """Label, file and number of a file with one fault, and what must stand in the words that tell its place.
+
+    Where the length of the file matters, which another chunk changes, `end` stands for it.
+    """
+    whole = wave(fmt(), data())
+    yield 'four bytes', b'RIFF', 1, [4, 12, MOST]
+    yield 'RIFX', wave(fmt(), data(), code=b'RIFX'), 2, ['RIFX', 'RIFF']
+    yield 'another form', wave(fmt(), data(), form=b'WAVX'), 2, ['WAVX', 'WAVE']
+    yield 'R odd', wave(fmt(), data(), size=len(whole) - 7), 3, [len(whole) - 7]
+    yield 'R too large', wave(fmt(), data(), size=len(whole) + 92), 3, [len(whole) + 92, len(whole)]
+    yield 'data past the end', wave(fmt(), chunk(b'data', bytes(8), 10)), 4, [10, 'end']
+    yield 'the last chunk past the end', wave(fmt(), data(), chunk(b'junk', b'', 2**32 - 8)), 4, [2**32 - 8, 'end']
+    yield 'a head that is cut', wave(fmt(), data(), b'LIST\0\0'), 4, ['end']
+    for name, made in (('fmt', fmt()), ('data', data()), ('fact', fact(4)), ('cue', cue()), ('plst', plst())):
+        yield f'a second {name}', wave(fmt(), data(), fact(4), cue(), plst(), chunk(b'LIST'), made), 5, []
+    yield 'data before fmt', wave(chunk(b'junk'), data(), fmt()), 6, ['fmt ']
+    yield 'LIST of wavl', wave(fmt(), chunk(b'LIST', b'INFO'), chunk(b'LIST', b'wavl'), data()), 7, []
+    yield 'no fmt', wave(chunk(b'junk')), 8, ['fmt ']
+    yield 'no data', wave(fmt()), 8, ['data']
+    yield '16-bit sound of 7 bytes', wave(fmt(), data(7)), 10, [7, 1, 2]
+    yield 'IMA of a block and a half', wave(ima(), fact(9), data(12)), 10, [12, 4, 8]
+    yield 'no fact', wave(ima(), data(8)), 11, ['fact']
+    yield 'a fact of 3 bytes', wave(fmt(), chunk(b'fact', b'\0\0\0'), data()), 11, [3, 4]
+    yield 'a count of 10 for 9', wave(ima(), fact(10), data(8)), 11, [10, 1, 9]
+    yield 'a count of 8 in three blocks', wave(microsoft(2, 16, 4), fact(8), data(48)), 11, [8, 3, 4, 9, 12]
+
+
+def format_faults():
+    """The same of formats."""
+    for label, made, said in (
+            ('14 bytes', chunk(b'fmt ', fmt()[8:22]), [14, 16]), ('float', fmt(tag=3), [3]),
+            ('extensible', fmt(tag=65534), [65534]), ('three channels', fmt(channels=3), [3]),
+            ('no channel', fmt(channels=0, align=2), [0]), ('rate 0', fmt(rate=0), [0, 192000]),
+            ('rate 192001', fmt(rate=192001), [192001, 192000]), ('24 bits', fmt(bits=24), [24, 8, 16]),
+            ('align 3', fmt(align=3), [3, 2]), ('average 8000', fmt(average=8000), [8000, 16000]),
+            ('IMA of 19 bytes', chunk(b'fmt ', ima()[8:27]), [19, 20]), ('IMA, extension 1', ima(extension=1), [1, 2]),
+            ('IMA, extension 258', ima(extension=258), [258, 2]), ('IMA of 16 bits', ima(bits=16), [16, 4]),
+            ('IMA, align 10', ima(align=10, samples=13), [10, 8, 4096, 4]),
+            ('IMA, align 4100', ima(align=4100, samples=8193), [4100, 4096]),
+            ('IMA stereo, align 20', ima(2, 20, 13), [20, 16, 4096, 8]), ('IMA, samples 10', ima(samples=10), [10, 9]),
+            ('Microsoft of 48 bytes', chunk(b'fmt ', microsoft()[8:56]), [48, 50]),
+            ('Microsoft, extension 31', microsoft(extension=31), [31, 32]),
+            ('Microsoft of 8 bits', microsoft(bits=8), [8, 4]),
+            ('Microsoft, align 7', microsoft(align=7, samples=2), [7, 8, 4096]),
+            ('Microsoft, samples 5', microsoft(samples=5), [5, 4]),
+            ('Microsoft, six pairs', microsoft(count=6), ['pairs']),
+            ('Microsoft, other pairs', microsoft(pairs=[1] * 14), ['pairs'])):
+        yield label, wave(chunk(b'LIST', b'odd'), made, fact(1), data(8)), 9, said
+        yield f'{label}, behind others', wave(fact(1), cue(), made, data(8)), 9, said
+
+
+def table_faults():
+    """The same of cues and of the playlist, whose entries are told by their names."""
+    big, good = 4000000000, [point(7, 0), point(8, 3)]
+    for label, made, said in (
+            ('no bytes', chunk(b'cue '), [0]), ('65 cues', cue(*[point(n, 0) for n in range(65)]), [65, 64]),
+            ('one counted and none there', cue(count=1), [4, 1, 28]), ('a cue at F', cue(*good, point(big, 4)), [4]),
+            ('a cue far away', cue(*good, point(big, 99), point(9, 98)), [99, 4]),
+            ('another chunk', cue(*good, point(big, 0, code=b'slnt')), ['slnt', 'data']),
+            ('a chunk start', cue(point(big, 0, start=31), *good), [31, 0]),
+            ('a block start', cue(*good, point(big, 0, block=77)), [77, 0]),
+            ('a name again', cue(*good, point(7, 1)), ['name'])):
+        yield label, wave(fmt(), made, data()), 12, said
+        yield f'{label}, in IMA', wave(ima(), data(8), fact(4), made), 12, said
+    for label, made, said in (
+            ('no bytes', chunk(b'plst'), [0]), ('65 entries', plst(*[entry(7, 1)] * 65), [65, 64]),
+            ('two counted and one there', plst(entry(7, 1), count=2), [16, 2, 28]),
+            ('no such cue', plst(entry(7, 4), entry(big, 1)), ['cue']),
+            ('no frames', plst(entry(7, 1), entry(8, 0)), ['frames']),
+            ('past the end', plst(entry(7, 4), entry(8, 2)), [3, 5, 4]), ('never', plst(entry(7, 4, 0)), [0])):
+        yield f'playlist, {label}', wave(fmt(), cue(*good), made, data()), 13, said
+        yield f'playlist, {label}, before the cues', wave(made, fmt(), data(), cue(*good)), 13, said
+
+
+def placed():
+    """A fault is told with chunk, byte and cue, and the numbers that matter; also behind a chunk that is skipped."""
+    for label, file, number, words in [*faults(), *format_faults(), *table_faults()]:
+        for made in [file] if number < 4 else [file, with_junk(file, 12)]:
+            expect(f'{label}, the number by the second reader', refusal_of(made), number)
+            where = {'file': 'file.wav', **place_in(number, made)}
+            said = [len(made) if word == 'end' else word for word in words]
+            for call in (['list', 'file.wav'], ['check', 'file.wav'], ['decode', 'file.wav', 'new.wav'],
+                         ['encode', 'file.wav', 'new.wav']):
+                refuses(f'{call[0]}, {label}', call, {'file.wav': made, 'new.wav': b'old'}, number, where, said)
+
+
+def block_places():
+    """Refusal 15 is told with the block, the byte and the channel; of two wrong blocks with the first."""
+    for tag, channels, turn in [(tag, channels, turn) for tag in (17, 2) for channels in (1, 2) for turn in range(3)]:
+        most = 88 if tag == 17 else 6
+        block, channel, value = ((0, 0, most + 1), (3, channels - 1, 255), (6, 0, most + 2))[turn]
+        chance, align = random.Random(turn), 24 * channels
+        blocks = [sound_files.some_block(chance, tag, channels, align, at == 6 and block < 6) for at in range(7)]
+        within = 4 * channel + 2 if tag == 17 else channel
+        blocks[block] = blocks[block][:within] + bytes([value]) + blocks[block][within + 1:]
+        file = with_junk(sound_files.adpcm(tag, channels, *blocks), 12)
+        where = {'file': 'file.wav', 'byte': first(file, b'data')[0] + 8 + align * block + within, 'block': block}
+        for call in (['decode', 'file.wav', 'new.wav'], ['encode', 'file.wav', 'new.wav']):
+            refuses(f'{call[0]}, tag {tag}, {channels} channels, block {block}', call, {'file.wav': file}, 15, where,
+                    [channel + 1, value, most])
+
+
+# ---- why a song is not added
+
+def unplaced(file):
+    """The first cue of a file, if any, which is not where the song before it ends, or is not played as on a side."""
+    _, _, cues, plays, _, _ = second_reader.read(file)
+    end = 0
+    for (name, _, place), (listed, length, times) in zip(cues, plays):
+        if (place, listed, times) != (end, name, 1):
+            return {'cue': name}
+        end += length
+    return {}
+
+
+def not_added(label, side, song, number, limit, refusal, where, said=()):
+    """Adding is refused, in place and to another file, and the place is told; the files stay."""
+    files = {'side.wav': side, 'song.wav': song, 'new.wav': b'old'}
+    answered = answer(second_command.add, side, song, number, limit)
+    expect(f'{label}, by the second way', answered, ([f'refused {refusal}'], None))
+    words = ['add', 'side.wav', 'song.wav', '--number', number, '--limit', limit]
+    refuses(f'add, {label}', words, files, refusal, where, said)
+    refuses(f'add to another file, {label}', [*words, '--out', 'new.wav'], files, refusal, where, said)
+
+
+def wrong_files():
+    """What is wrong with the file of a song is told as of any file; of a side it is 19, and the number is said."""
+    side, song = side_files.side((7, 2)), side_files.song()
+    for label, number, made in side_files.faulty():
+        place = place_in(number, made)
+        not_added(f'song: {label}', side, made, 5, 99, number, {'file': 'song.wav', **place})
+        not_added(f'side: {label}', made, song, 5, 99, 19, {'file': 'side.wav', **place}, [number])
+    for label, made in side_files.wrong_tables():
+        not_added(f'no side: {label}', made, song, 5, 99, 19, {'file': 'side.wav', **unplaced(made)})
+    for label, made in side_files.wrong_formats():
+        not_added(f'no side: {label}', made, song, 5, 99, 19, {'file': 'side.wav'}, ['16-bit'])
+
+
+def wrong_songs():
+    """Refusals 9 and 16 to 18: the file in which the reason is, the cue, and the numbers that matter."""
+    side, song = side_files.side((7, 2), (8, 3)), side_files.song
+    on_side, in_song = {'file': 'side.wav'}, {'file': 'song.wav'}
+    not_added('8 bits', side, song(bits=8), 5, 99, 9, in_song, ['16-bit'])
+    not_added('IMA', side, wave(ima(), fact(9), data(8)), 5, 99, 9, in_song, ['16-bit'])
+    not_added('stereo', side, song(channels=2), 5, 99, 9, in_song, [2, 1])
+    not_added('rate 8001', side, song(rate=8001), 5, 99, 9, in_song, [8001, 8000])
+    silent = wave(chunk(b'junk', b'abc'), fmt(), data(0))
+    not_added('no frames', side, silent, 8, 99, 16, {**in_song, 'chunk': 'data', 'byte': first(silent, b'data')[0]})
+    own = side_files.sound_of(3, 8)
+    for label, sound, said in (('another byte', own[:3] + b'\0' + own[4:], [3, 3, 1]),
+                               ('longer', own + b'ab', [3, 4, 3]), ('shorter', own[:4], [3, 2, 2]),
+                               ('other sound', bytes(60), [3, 30, 0])):
+        not_added(label, side, song(sound=sound), 8, 99, 16, {**on_side, 'cue': 8}, said)
+    not_added('the second song again', side, song(3, 8), 8, 99, 18, {**on_side, 'cue': 8}, [2])
+    not_added('the first song again', side, song(2, 7), 7, 0, 18, {**on_side, 'cue': 7}, [1, 0])
+    not_added('past the limit', side, song(20), 5, 21, 17, on_side, [5, 20, 25, 4])
+    not_added('64 songs', side_files.full_side(64), song(), 5, 99, 17, on_side, [64])
+
+
+def other_refusals():
+    """An align that cannot be, and an empty side that cannot."""
+    files = {'file.wav': side_files.song(channels=2), 'new.wav': b'old'}
+    for align in (0, 4, 6, 8, 20, 4100, 65535):
+        refuses(f'align {align}', ['encode', 'file.wav', 'new.wav', '--align', align], files, 9, {'file': 'file.wav'},
+                [align, 16, 4096, 8])
+    for channels, rate in ((0, 8000), (3, 8000), (65535, 44100), (32769, 1), (1, 0), (2, 192001), (2, 2**32 - 1)):
+        words = ['new-side', 'new.wav', '--channels', channels, '--rate', rate]
+        refuses(f'{channels} channels, rate {rate}', words, {}, 9, {'file': 'new.wav'}, [channels, rate])
+    for channels, rate in ((1, 1), (2, 192000), (2, 44100)):
+        words = ['new-side', 'new.wav', '--channels', channels, '--rate', rate]
+        does(f'{channels} channels, rate {rate}', words, {}, (['bytes 44'], second_side.empty(channels, rate)[1]))

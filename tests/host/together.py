@@ -1,0 +1,137 @@
+"""Several runs at a time: adds to one side, and others that write into one folder."""
+import contextlib
+import fcntl
+import os
+import time
+
+from host.run import ADDED, ADDED_SONG, DECODED, FILES, HOST, IN_PLACE, NEW, OTHER, parts
+from host.trying import EMPTY, expect, holding, kept, overlapping, printed, put, run, start
+from second import command as second_command, side as second_side
+from second.command import answer
+from vectors import side_files
+from vectors.wave_files import chunk, fmt, wave
+
+
+def adding(side, song, number):
+    """The words of an add in place."""
+    return [*HOST, 'add', '--number', number, '--limit', 40000, '--', side, song]
+
+
+def two_adds():
+    """No song is lost: the second add waits for the first one, but not for one that was killed."""
+    both = 'added 1\nbytes 3304\n', 'added 2\nbytes 5740\n'
+    for out in ('side.wav', '-sides/side.wav'):
+        overlapping(f'two adds to {out}', 'tronalhet', adding, out, lambda first: None, (both, True, [1, 2]))
+    overlapping('an add after one was killed', 'tronalhet', adding, 'side.wav', lambda one: (one.kill(), one.wait()),
+                (('', 'added 2\nbytes 2504\n'), False, [2]))
+
+
+def locked(folder):
+    """Has the folder for oneself, as ./wave does for an add, until what is given back is closed."""
+    held = os.open(folder, os.O_RDONLY)
+    fcntl.flock(held, fcntl.LOCK_EX)
+    return held
+
+
+@contextlib.contextmanager
+def sides():
+    """A folder with a side, songs, and in another folder a link to the side."""
+    with holding({**FILES, 'other.wav': OTHER}) as folder:
+        put(folder / 'folder' / 'link', '../side.wav')
+        yield folder
+
+
+def while_locked(label, words, wanted, meanwhile=lambda folder: None):
+    """The command waits, and says so, as long as another program has the folder, where something may happen meanwhile.
+
+    What is wanted: the status, standard output, and the files that are changed then.
+    """
+    with sides() as folder:
+        before, held = kept(folder), locked(folder)
+        with start([*HOST, *words], folder) as waiting:
+            said = waiting.stderr.readline()
+            time.sleep(0.3)
+            expect(f'{label}, what is said and done before', (said[:35], waiting.poll(), kept(folder)),
+                   ('tronalhet: waiting for another add ', None, before))
+            meanwhile(folder)
+            after = {**kept(folder), **wanted[2]}
+            os.close(held)
+            shown, _ = waiting.communicate(timeout=60)
+        expect(f'{label}, what is said then', (waiting.returncode, shown), wanted[:2])
+        expect(f'{label}, the files', kept(folder), after)
+
+
+def waits():
+    """An add and a new side wait for others in the folder where they write, also where a link leads there."""
+    lines, made = ADDED_SONG
+    for side in ('side.wav', './folder/../side.wav', 'folder/link'):
+        while_locked(f'add to {side}', ['add', side, 'song.wav', *ADDED], (0, printed(lines), {'side.wav': made}))
+    while_locked('add to a new file', [*IN_PLACE, '--out=new.wav'], (0, printed(lines), {'new.wav': made}))
+    while_locked('a new side', ['new-side', 'new.wav', *NEW], (0, 'bytes 44\n', {'new.wav': EMPTY}))
+    while_locked('a new side whose name is taken', ['new-side', 'new.wav', *NEW], (74, '', {}),
+                 lambda folder: put(folder / 'new.wav', b'taken'))
+    more, both = answer(second_command.add, made, OTHER, 8, 9999)
+    while_locked('add to a side that is changed', ['add', 'side.wav', 'other.wav', '--number=8', '--limit=9999'],
+                 (0, printed(more), {'side.wav': both}), lambda folder: put(folder / 'side.wav', made))
+    for name in ('side.wav', 'song.wav'):
+        while_locked(f'add, and {name} vanishes', IN_PLACE, (74, '', {}),
+                     lambda folder, name=name: (folder / name).unlink())
+
+
+def elsewhere():
+    """Who writes into another folder does not wait, nor who adds nothing."""
+    with sides() as folder:
+        held = locked(folder)
+        for words in ([*IN_PLACE, '--out=folder/new.wav'], ['list', 'side.wav'], ['check', 'side.wav'],
+                      ['decode', 'song.wav', 'new.wav'], ['encode', 'song.wav', 'new.wav']):
+            status, _, said = run([*HOST, *words], folder, timeout=60)
+            expect(f'{words} beside a lock', (status, said), (0, ''))
+        os.close(held)
+
+
+def all_at_once(commands, folder):
+    """Starts the command with all these words and waits; what each run ends with."""
+    ended = []
+    for one in [start([*HOST, *words], folder) for words in commands]:
+        with one:
+            one.communicate(timeout=600)
+            ended.append(one.returncode)
+    return ended
+
+
+def ten_adds():
+    """Ten adds at the same moment: all ten songs are on the side, in some order and each whole."""
+    songs = {number: side_files.sound_of(3000 + number, number) for number in range(1, 11)}
+    with sides() as folder:
+        for number, sound in songs.items():
+            put(folder / f'{number}.wav', wave(fmt(), chunk(b'data', sound)))
+        ended = all_at_once([['add', 'side.wav' if number % 2 else 'folder/link', f'{number}.wav', '--number', number,
+                              '--limit', 99999] for number in songs], folder)
+        expect('ten adds, how they end', ended, [0] * 10)
+        made = (folder / 'side.wav').read_bytes()
+        expect('ten adds, the songs', {song.number: song.sound for song in second_side.songs(made)}, songs)
+        expect('ten adds, the size', len(made), len(EMPTY) + 24 + 36 * 10 + sum(map(len, songs.values())))
+        expect('ten adds, what is left', (parts(folder), os.readlink(folder / 'folder' / 'link')), ([], '../side.wav'))
+
+
+def ten_sides():
+    """Of ten new sides of one name at the same moment one is made."""
+    with sides() as folder:
+        ended = all_at_once([['new-side', 'new.wav', '--channels=1', f'--rate={8000 + turn}'] for turn in range(10)],
+                            folder)
+        expect('ten new sides, how they end', sorted(ended), [0] + [74] * 9)
+        expect('the new side', (folder / 'new.wav').read_bytes(), second_side.empty(1, 8000 + ended.index(0))[1])
+
+
+def many_decodes():
+    """Runs that write into one folder at the same moment do not sweep away each other's unfinished files.
+
+    What could go wrong takes a moment that is seldom hit, hence so many; one in a hundred runs would be seen.
+    """
+    with sides() as folder:
+        ended = []
+        for turn in range(25):
+            ended += all_at_once([['decode', 'song.wav', f'{turn}-{place}.wav'] for place in range(60)], folder)
+        made = [path.read_bytes() == DECODED[1] for path in folder.glob('*-*.wav')]
+        expect('many decodes, those that did not end well', [status for status in ended if status != 0], [])
+        expect('many decodes, what is there', (len(made), all(made), parts(folder)), (1500, True, []))

@@ -1,0 +1,170 @@
+"""What the tests of the commands share: a program is run on files in a folder of its own, and what it says and leaves
+there is held against what must come."""
+import contextlib
+import os
+import pathlib
+import resource
+import subprocess
+import sys
+import tempfile
+import time
+
+from programs import other_programs, other_songs
+from second import reader as second_reader, side as second_side
+
+ROOT = pathlib.Path(__file__).resolve().parent.parent.parent
+sys.path.insert(0, str(ROOT / 'demo'))
+import make
+
+SONG, EMPTY = make.files()['school-song.wav'], make.files()['empty-side.wav']
+WRONG = []
+
+
+def expect(label, found, wanted):
+    """Takes down what is not as it must be."""
+    if found != wanted:
+        WRONG.append(f'{label}: it is {str(found)[:400]}, and must be {str(wanted)[:400]}')
+
+
+def report(name):
+    """Prints the first of what is wrong; the exit status of the test."""
+    for line in WRONG[:20]:
+        print(f'{name}: {line}'.encode(errors='backslashreplace').decode())
+    return 1 if WRONG else 0
+
+
+# ---- a program in a folder
+
+def run(words, folder, **options):
+    """Exit status, standard output and standard error of a program that is run in a folder."""
+    if 'input' not in options:
+        options = {'stdin': subprocess.DEVNULL, **options}
+    ran = subprocess.run([str(word) for word in words], cwd=folder, stdout=subprocess.PIPE, stderr=subprocess.PIPE,
+                         check=False, **options)
+    return ran.returncode, ran.stdout.decode(), ran.stderr.decode()
+
+
+def limited(kind, size):
+    """Options for `run` under a limit of the system."""
+    return {'preexec_fn': lambda: resource.setrlimit(kind, (size, size)), 'restore_signals': False}
+
+
+def printed(lines):
+    """Lines as a program prints them."""
+    return ''.join(f'{line}\n' for line in lines)
+
+
+def meanings():
+    """What a refusal means, by its number from 1 on."""
+    return dict(enumerate((ROOT / 'host' / 'meanings').read_text().splitlines(), 1))
+
+
+def kept(folder):
+    """All that a folder has, by name: the bytes of a file, where a link leads, None for a folder."""
+    return {str(path.relative_to(folder)): os.readlink(path) if path.is_symlink()
+            else path.read_bytes() if path.is_file() else None for path in folder.rglob('*')}
+
+
+def put(path, content):
+    """Makes a file of bytes, or a link to where a text says."""
+    if isinstance(content, str):
+        path.symlink_to(content)
+    else:
+        path.write_bytes(content)
+
+
+@contextlib.contextmanager
+def holding(files):
+    """A folder with these files and an empty folder, which is removed again."""
+    with tempfile.TemporaryDirectory() as name:
+        folder = pathlib.Path(name)
+        for file, content in files.items():
+            put(folder / file, content)
+        (folder / 'folder').mkdir()
+        yield folder
+
+
+def tried(label, words, files, wanted, changed, seen=lambda answer: answer, **options):
+    """Runs a program in a folder with these files: what is seen of its answer must be what is wanted, and nothing else
+    may change there."""
+    with holding(files) as folder:
+        after = {**kept(folder), **changed}
+        expect(label, seen(run(words, folder, **options)), wanted)
+        found = kept(folder)
+        expect(f'{label}, the files that are there', sorted(found), sorted(after))
+        wrong = [file for file in after if found.get(file) != after[file]]
+        expect(f'{label}, the files that are not as they must be', wrong, [])
+
+
+# ---- files of other programs
+
+def other_files():
+    """The files of other programs, by name; each once. Of two that differ and have one name, one has its crate's."""
+    found = {}
+    for folder in (other_songs.HEARD, other_programs.DATA, other_songs.DATA):
+        for path in sorted(folder.glob('*.wav')):
+            file = path.read_bytes()
+            if file not in found.values():
+                found[f'{folder.parent.name}-{path.name}' if path.name in found else path.name] = file
+    return found
+
+
+def empty_for(song):
+    """An empty side of a song's channels and rate, or of any where the song is refused."""
+    try:
+        _, channels, rate, _, _, _ = second_reader.read(song)[0]
+    except second_reader.Refused:
+        return EMPTY
+    return second_side.empty(channels, rate)[1]
+
+
+# ---- two adds at a time
+
+def start(words, folder, **options):
+    """Starts a program, in a group of processes that can be killed as one."""
+    options = {'stdin': subprocess.DEVNULL, **options}
+    return subprocess.Popen([str(word) for word in words], cwd=folder, text=True, stdout=subprocess.PIPE,
+                            stderr=subprocess.PIPE, start_new_session=True, **options)
+
+
+def opened(pipe):
+    """The writing end of a named pipe, as soon as a program reads it; it waits for that half a minute."""
+    for _ in range(3000):
+        try:
+            return os.open(pipe, os.O_WRONLY | os.O_NONBLOCK)
+        except OSError:
+            time.sleep(0.01)
+    raise TimeoutError(f'no program reads {pipe}')
+
+
+def overlapping(label, name, add, out, killed, wanted):
+    """An add has read the side and waits for its song, and is killed so; a second add starts, and then the song comes.
+
+    The second knows the side by another path. The name is the one under which the program speaks; `add` gives the words
+    of a call that adds a song to a side under a number. What is wanted: what the two say, whether the second says that
+    it waits, and the songs of the side in the end.
+    """
+    with tempfile.TemporaryDirectory() as room:
+        folder = pathlib.Path(room)
+        (folder / '-sides').mkdir()
+        put(folder / out, EMPTY)
+        put(folder / 'song.wav', make.files()['harbour-song.wav'])
+        os.mkfifo(folder / 'pipe')
+        with start(add(out, 'pipe', 1), folder) as first:
+            pipe = opened(folder / 'pipe')
+            killed(first)
+            with start(add(folder / out, folder / 'song.wav', 2), '/') as second:
+                # It says that it waits, or ends without a word; if it did not wait, it would soon be done.
+                said = second.stderr.readline()
+                time.sleep(0.3)
+                try:
+                    os.write(pipe, SONG)
+                except BrokenPipeError:
+                    pass
+                os.close(pipe)
+                told = first.communicate(timeout=60)[0], second.communicate(timeout=60)[0]
+        waiting = f'{name}: waiting for another add in {(folder / out).parent}/\n'
+        expect(f'{label}, what the adds say', (told, said), (wanted[0], waiting if wanted[1] else ''))
+        songs = [song.number for song in second_side.songs((folder / out).read_bytes())]
+        expect(f'{label}, the songs of the side', songs, wanted[2])
+        expect(f'{label}, the files', sorted(kept(folder)), sorted(['-sides', out, 'pipe', 'song.wav']))

@@ -1,0 +1,140 @@
+"""Nothing is lost: a full disk, runs that are killed while they write, and what they leave behind."""
+import contextlib
+import errno
+import fcntl
+import os
+import pathlib
+import re
+import resource
+import shutil
+import signal
+import subprocess
+
+from host.run import DECODED, FILES, HOST, IN_PLACE, NATIVE, NEW, PART, STEREO, parts, writing
+from host.trouble import trouble
+from host.trying import SONG, expect, holding, kept, limited, printed, put, run
+from second import command as second_command
+from second.command import answer
+from vectors.wave_files import chunk, data, wave
+
+
+def full_disk():
+    """A write that fails after a part of the bytes leaves nothing, also where the file was there before.
+
+    The signal SIGXFSZ, which would end a program at the limit, is ignored, as Python has it; then the write fails as
+    on a full disk.
+    """
+    reason = os.strerror(errno.EFBIG)
+    for name in ('new.wav', 'old.wav'):
+        for words in writing(name)[:3]:
+            trouble(f'{words[0]} to {name} on a full disk', words, {**FILES, 'old.wav': b'old'},
+                    f'cannot write {name}: {reason}', **limited(resource.RLIMIT_FSIZE, 500))
+    trouble('add in place on a full disk', IN_PLACE, FILES, f'cannot write side.wav: {reason}',
+            **limited(resource.RLIMIT_FSIZE, 500))
+    trouble('a new side on a full disk', ['new-side', 'new.wav', *NEW], FILES, f'cannot write new.wav: {reason}',
+            **limited(resource.RLIMIT_FSIZE, 43))
+
+
+def really_full_disk():
+    """The same on a small disk of its own; where the system lets nobody have one, the limits above are all."""
+    apart = ['unshare', '-m'] if os.getuid() == 0 else ['unshare', '-rm']
+    script = ('mount -t tmpfs -o size=64k none folder && cp *.wav folder && cd folder && '
+              '{ "$@"; echo "status $?"; ls -A; cat *; }')
+    sound = chunk(b'data', b'song' * 10000)
+    files = {'old.wav': b'old', 'side.wav': wave(STEREO, data(0)), 'song.wav': wave(STEREO, sound)}
+    lines, coded = answer(second_command.encode, files['song.wav'], 1024)
+    full, copied_there = (['status 74'], files), ([*lines, 'status 0'], {**files, 'old.wav': coded})
+    with holding(files) as folder:
+        if not shutil.which('unshare') or run([*apart, 'mount', '-t', 'tmpfs', 'none', 'folder'], folder)[0] != 0:
+            return
+        for words, (said, after) in ((['decode', 'song.wav', 'old.wav'], full),
+                                     (['decode', 'song.wav', 'new.wav'], full),
+                                     (['add', 'side.wav', 'song.wav', '--number=7', '--limit=10000'], full),
+                                     # There is room for a copy.
+                                     (['encode', 'song.wav', 'old.wav'], copied_there)):
+            ran = subprocess.run([str(word) for word in [*apart, 'sh', '-c', script, 'sh', *HOST, *words]], cwd=folder,
+                                 stdout=subprocess.PIPE, stderr=subprocess.PIPE, check=False)
+            expect(f'{words} on a small disk', ran.stdout, printed([*said, *after]).encode() + b''.join(after.values()))
+            lacking = os.strerror(errno.ENOSPC).encode() in ran.stderr
+            expect(f'{words} on a small disk, whether it says so', lacking, said == full[0])
+
+
+def swept(label, folder):
+    """The next run in a folder is not hindered by what is left of another, and removes it."""
+    put(folder / 'next song.wav', SONG)
+    status, _, said = run([*HOST, 'decode', 'next song.wav', 'next.wav'], folder)
+    expect(f'{label}, the next run', (status, said, parts(folder)), (0, '', []))
+    expect(f'{label}, what it writes', (folder / 'next.wav').read_bytes(), DECODED[1])
+
+
+def at_300_bytes():
+    """Has the system kill a program whose file gets longer than that, and keep no picture of its memory."""
+    resource.setrlimit(resource.RLIMIT_CORE, (0, 0))
+    resource.setrlimit(resource.RLIMIT_FSIZE, (300, 300))
+
+
+def killed_in_write():
+    """A run that the system kills in the middle of a write: the old file is whole, and no new one has its name."""
+    files = {**FILES, 'old.wav': b'old'}
+    for words in [*writing('old.wav')[:3], *writing('new.wav')[:3], IN_PLACE]:
+        with holding(files) as folder:
+            status, shown, _ = run([*HOST, *words], folder, preexec_fn=at_300_bytes)
+            expect(f'{words}, killed in a write', (status, shown), (-signal.SIGXFSZ, ''))
+            left = parts(folder)
+            if NATIVE:
+                # An emulator may be killed by the limit before the command writes.
+                expect(f'{words}, killed, what is left', [path.stat().st_size for path in left], [300])
+            others = {name: content for name, content in kept(folder).items() if folder / name not in left}
+            expect(f'{words}, killed, the files', others, {**files, 'folder': None})
+            swept(f'{words}, killed', folder)
+
+
+def living_parts():
+    """What a run that lives has locked is left alone, and what is no unfinished file of the command too."""
+    others = ['tronalhet-1-0.part', '.tronalhet-1-0.wav', 'song.wav.part', '.part']
+    with holding({**FILES, **{other: b'part' for other in others}}) as folder:
+        living, dead = folder / '.tronalhet-1-0.part', folder / '.tronalhet-2-0.part'
+        put(living, b'part')
+        with open(living, 'rb') as held:
+            fcntl.flock(held, fcntl.LOCK_EX)
+            for place in range(4):
+                words = writing(f'new{place}.wav')[place]
+                put(dead, b'part')
+                status, _, _ = run([*HOST, *words], folder)
+                expect(f'{words[0]} beside a run that lives', (status, parts(folder)), (0, [living]))
+        swept('after a run that lived', folder)
+        expect('other files', [other for other in others if (folder / other).read_bytes() == b'part'], others)
+
+
+def no_parts():
+    """A link with the name of an unfinished file is no way to another file; a folder or a pipe does not stop a run."""
+    with holding(FILES) as folder:
+        put(folder / '.tronalhet-1-0.part', 'song.wav')
+        (folder / '.tronalhet-2-0.part').mkdir()
+        before = kept(folder)
+        status, _, _ = run([*HOST, 'encode', 'song.wav', 'new.wav'], folder)
+        expect('a link and a folder as parts', (status, {**kept(folder), **before}), (0, kept(folder)))
+        os.mkfifo(folder / '.tronalhet-3-0.part')
+        ended = 'it waits'
+        with contextlib.suppress(subprocess.TimeoutExpired):
+            ended = run([*HOST, 'encode', 'song.wav', 'new.wav'], folder, timeout=5)[0]
+        expect('a named pipe as a part', ended, 0)
+
+
+def calls_in(log):
+    """The calls that strace wrote down, each with the first file that it names, an unfinished one as such."""
+    for line in log.splitlines():
+        files = [pathlib.Path(file) for file in re.findall(r'[<"]([^<>"]+)[>"]', line)]
+        yield from [(line.split('(')[0], PART if file.match(PART) else file.name) for file in files[:1]]
+
+
+def flushed():
+    """The new file is flushed before it gets its name, and then the folder; where the calls of a run can be seen."""
+    watch = ['strace', '-y', '-o', 'log', '-e', 'trace=fsync,fdatasync,rename,renameat,renameat2']
+    with holding(FILES) as folder:
+        if not NATIVE or not shutil.which('strace') or run([*watch, 'true'], folder)[0] != 0:
+            return
+        for words in [*writing('new.wav')[:3], IN_PLACE, ['new-side', 'newer.wav', *NEW]]:
+            status, _, _ = run([*watch, *HOST, *words], folder)
+            expect(f'{words[0]}, the order of its calls', (status, [*calls_in((folder / 'log').read_text())]),
+                   (0, [('fsync', PART), ('rename', PART), ('fsync', folder.name)]))
