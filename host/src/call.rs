@@ -1,5 +1,7 @@
 //! The words of the command line.
-use std::collections::BTreeMap;
+use crate::pages;
+use crate::stop::shown;
+use std::collections::{BTreeMap, BTreeSet};
 use std::ffi::{OsStr, OsString};
 use std::fmt::Write;
 use std::os::unix::ffi::OsStrExt;
@@ -7,61 +9,80 @@ use std::os::unix::ffi::OsStrExt;
 /// A command: its name, the words that it takes, and its options.
 pub struct Command {
     pub name: &'static str,
-    words: &'static [&'static str],
+    pub words: &'static [&'static str],
     /// The last word may be given more than once.
     many: bool,
-    options: &'static [Choice],
-    about: &'static str,
+    pub options: &'static [Choice],
+    pub about: &'static str,
+    /// What the help on this command and the man page say besides; may be empty.
+    pub more: &'static str,
 }
 
-/// An option with a value.
-struct Choice {
-    name: &'static str,
-    value: &'static str,
+/// An option.
+pub struct Choice {
+    pub name: &'static str,
+    pub takes: Takes,
     needed: bool,
-    /// The largest number that it may be; none for a file.
-    most: Option<u32>,
-    about: &'static str,
+    pub about: &'static str,
+}
+
+/// What stands after an option: nothing, a number that is at most so large, or the name of a file.
+#[derive(Clone, Copy)]
+pub enum Takes {
+    Nothing,
+    Number(&'static str, u32),
+    File(&'static str),
+}
+
+const fn flag(name: &'static str, about: &'static str) -> Choice {
+    Choice { name, takes: Takes::Nothing, needed: false, about }
 }
 
 const fn number(name: &'static str, value: &'static str, needed: bool, most: u32, about: &'static str) -> Choice {
-    Choice { name, value, needed, most: Some(most), about }
+    Choice { name, takes: Takes::Number(value, most), needed, about }
 }
 
-const COMMANDS: &[Command] = &[
+const JSON: Choice = flag("json", "the answer as JSON, a line for each file");
+const REPLACE: Choice = flag("replace", "replaces OUT where a file of that name is there already");
+
+/// All commands. The help, the man page and the completion are made from this.
+pub const COMMANDS: &[Command] = &[
     Command {
         name: "list",
         words: &["FILE"],
         many: false,
-        options: &[],
+        options: &[JSON],
         about: "Shows what a WAVE file says, with its cues and its playlist.",
+        more: "",
     },
     Command {
         name: "check",
         words: &["FILE"],
         many: true,
-        options: &[],
+        options: &[flag("sound", "also tests the header of every ADPCM block: refusal 15"), JSON],
         about: "Says of each file whether it is accepted. The status is that of the first that is not.",
+        more: "Without --sound all is tested but the sound itself. That the header of an ADPCM block is out of range\n\
+               (refusal 15) shows only with --sound, or when the file is decoded.",
     },
     Command {
         name: "decode",
         words: &["IN", "OUT"],
         many: false,
-        options: &[],
+        options: &[REPLACE, JSON],
         about: "Writes the sound of IN as a 16-bit WAVE file, with its cues and its playlist.",
+        more: "",
     },
     Command {
         name: "encode",
         words: &["IN", "OUT"],
         many: false,
-        options: &[number(
-            "align",
-            "N",
-            false,
-            65535,
-            "bytes of a block, a multiple of 4 for each channel; 1024 if not said",
-        )],
+        options: &[
+            number("align", "N", false, 65535, "bytes of a block, a multiple of 4 for each channel; 1024 if not given"),
+            REPLACE,
+            JSON,
+        ],
         about: "Writes an approval copy of IN, in IMA ADPCM: a quarter of its size.",
+        more: "",
     },
     Command {
         name: "add",
@@ -70,9 +91,21 @@ const COMMANDS: &[Command] = &[
         options: &[
             number("number", "N", true, u32::MAX, "the song's donation number"),
             number("limit", "FRAMES", true, u32::MAX, "the most frames that the side may have"),
-            Choice { name: "out", value: "FILE", needed: false, most: None, about: "the new side; SIDE if not said" },
+            Choice {
+                name: "out",
+                takes: Takes::File("FILE"),
+                needed: false,
+                about: "writes the new side under this name; if not given, it takes the place of SIDE",
+            },
+            flag(
+                "replace",
+                "replaces a FILE that is there already; or a SIDE with other hard links, which keep the old side",
+            ),
+            flag("backup", "keeps the old side as SIDE.1, SIDE.2, .., the first name that is free"),
+            JSON,
         ],
         about: "Adds a song to a side. A song that is on it already is not added again, which is no fault.",
+        more: "",
     },
     Command {
         name: "new-side",
@@ -81,43 +114,56 @@ const COMMANDS: &[Command] = &[
         options: &[
             number("channels", "N", true, 65535, "1 or 2"),
             number("rate", "N", true, u32::MAX, "frames a second, 1 to 192000"),
+            JSON,
         ],
         about: "Writes an empty side. OUT must be a new name.",
+        more: "",
     },
 ];
 
 /// What is said below the commands, and below the options of each.
-const STATUS: &str = "\
+pub const FILES: &str = "\
 A file may have 1,073,741,824 bytes. For a file that is read, - is standard input. A new file gets its name only
-when it is whole and on the disk. What is refused is told by a number, and on standard error what it means and where.
-
-Exit status: 0 done, or nothing to do (18); 1 to 20 the number of the refusal; 64 called in another form than this;
-74 trouble, as a file that is not there: standard error says what.
+when it is whole and on the disk. A refusal is reported by its number; standard error says what it means and where.
 ";
+pub const STATUS: &str = "\
+0 done, or nothing to do (18); 1 to 20 the number of the refusal; 64 a wrong call;
+74 I/O error, explained on standard error.
+";
+
+impl Choice {
+    /// The option with the name of its value.
+    pub fn usage(&self) -> String {
+        match self.takes {
+            Takes::Nothing => format!("--{}", self.name),
+            Takes::Number(value, _) | Takes::File(value) => format!("--{} {value}", self.name),
+        }
+    }
+}
 
 impl Command {
     /// How it is called.
-    fn usage(&self) -> String {
+    pub fn usage(&self) -> String {
         let mut usage = format!("tronalhet {} {}", self.name, self.words.join(" "));
         if self.many {
             usage.push_str("..");
         }
-        for Choice { name, value, needed, .. } in self.options {
-            let (open, close) = if *needed { ("", "") } else { ("[", "]") };
-            write!(usage, " {open}--{name} {value}{close}").expect("a text can be written to");
+        for choice in self.options {
+            let (open, close) = if choice.needed { ("", "") } else { ("[", "]") };
+            write!(usage, " {open}{}{close}", choice.usage()).expect("a text can be written to");
         }
-        usage + " [--json]"
+        usage
     }
 
     fn help(&self) -> String {
         let mut help = format!("usage: {}\n\n{}\n\n", self.usage(), self.about);
         for choice in self.options {
-            let option = format!("--{} {}", choice.name, choice.value);
-            writeln!(help, "  {option:<15} {}", choice.about).expect("a text can be written to");
+            writeln!(help, "  {:<15} {}", choice.usage(), choice.about).expect("a text can be written to");
         }
-        writeln!(help, "  {:<15} the answer as JSON, a line for each file\n", "--json")
-            .expect("a text can be written to");
-        help + STATUS
+        if !self.more.is_empty() {
+            write!(help, "\n{}\n", self.more).expect("a text can be written to");
+        }
+        format!("{help}\n{FILES}\nExit status: {STATUS}")
     }
 }
 
@@ -127,7 +173,7 @@ fn help() -> String {
     for command in COMMANDS {
         writeln!(help, "{}\n    {}", command.usage(), command.about).expect("a text can be written to");
     }
-    help + "\ntronalhet COMMAND --help says more of one.\n\n" + STATUS
+    format!("{help}\ntronalhet help COMMAND says more of one.\n\n{FILES}\nExit status: {STATUS}")
 }
 
 /// A command with its words and options.
@@ -136,10 +182,16 @@ pub struct Call {
     pub words: Vec<OsString>,
     pub out: Option<OsString>,
     numbers: BTreeMap<&'static str, u32>,
+    flags: BTreeSet<&'static str>,
     pub json: bool,
 }
 
 impl Call {
+    /// Whether an option without a value was given.
+    pub fn flag(&self, name: &str) -> bool {
+        self.flags.contains(name)
+    }
+
     /// The number of an option that was given.
     pub fn number(&self, name: &str) -> Option<u32> {
         self.numbers.get(name).copied()
@@ -153,7 +205,8 @@ impl Call {
 
 pub enum Asked {
     Run(Call),
-    Help(String),
+    /// A text to be printed: help, the version, the man page or the completion.
+    Text(String),
 }
 
 /// A wrong call: what is wrong, and how it should be.
@@ -164,24 +217,62 @@ pub struct Wrong {
 
 /// What the words after the command's own name ask for.
 pub fn asked(words: Vec<OsString>) -> Result<Asked, Wrong> {
-    let first = words.first().map(|word| word.to_string_lossy().into_owned()).unwrap_or_default();
-    if ["--help", "-h", "help"].contains(&first.as_str()) {
-        return Ok(Asked::Help(help()));
+    let first = words.first().ok_or_else(|| no_command("a command is missing".into()))?;
+    match first.to_str() {
+        Some("help" | "--help" | "-h") => help_on(&words[1..]).map(Asked::Text),
+        Some("--version") => Ok(Asked::Text(format!("tronalhet {}\n", env!("CARGO_PKG_VERSION")))),
+        Some("--man") => Ok(Asked::Text(pages::man())),
+        Some("--completion") => Ok(Asked::Text(pages::completion())),
+        _ => {
+            let command = command_of(first)?;
+            taken(command, &words[1..]).map_err(|what| Wrong { what, usage: command.usage() })
+        }
     }
-    if first == "--version" {
-        return Ok(Asked::Help(format!("tronalhet {}\n", env!("CARGO_PKG_VERSION"))));
-    }
+}
+
+/// A call that names none of the commands.
+fn no_command(what: String) -> Wrong {
     let names: Vec<&str> = COMMANDS.iter().map(|command| command.name).collect();
-    let command = COMMANDS.iter().find(|command| command.name == first).ok_or_else(|| Wrong {
-        what: if first.is_empty() { "a command is missing".into() } else { format!("there is no command {first}") },
-        usage: format!("tronalhet {} ..; tronalhet --help says more", names.join("|")),
-    })?;
-    taken(command, &words[1..]).map_err(|what| Wrong { what, usage: command.usage() })
+    Wrong { what, usage: format!("tronalhet {} ..; tronalhet --help says more", names.join("|")) }
+}
+
+fn command_of(word: &OsStr) -> Result<&'static Command, Wrong> {
+    let found = COMMANDS.iter().find(|command| word == command.name);
+    found.ok_or_else(|| no_command(format!("there is no command '{}'", given(word))))
+}
+
+/// The help on all commands, or on the one that is named.
+fn help_on(words: &[OsString]) -> Result<String, Wrong> {
+    match words {
+        [] => Ok(help()),
+        [name] => command_of(name).map(Command::help),
+        [_, second, ..] => Err(Wrong { what: too_many(second), usage: "tronalhet help [COMMAND]".into() }),
+    }
+}
+
+/// A word of the call, to be shown. A dash is that word here, and no name of standard input.
+fn given(word: &OsStr) -> String {
+    if word == "-" {
+        "-".into()
+    } else {
+        shown(word)
+    }
+}
+
+fn too_many(word: &OsStr) -> String {
+    format!("'{}' is one word too many", given(word))
 }
 
 /// The words of a command, taken apart; else what is wrong with them.
 fn taken(command: &'static Command, words: &[OsString]) -> Result<Asked, String> {
-    let mut call = Call { command: command.name, words: vec![], out: None, numbers: BTreeMap::new(), json: false };
+    let mut call = Call {
+        command: command.name,
+        words: vec![],
+        out: None,
+        numbers: BTreeMap::new(),
+        flags: BTreeSet::new(),
+        json: false,
+    };
     let mut words = words.iter();
     let mut plain = false;
     while let Some(word) = words.next() {
@@ -190,18 +281,17 @@ fn taken(command: &'static Command, words: &[OsString]) -> Result<Asked, String>
         } else if word == "--" {
             plain = true;
         } else if word == "--help" || word == "-h" {
-            return Ok(Asked::Help(command.help()));
-        } else if word == "--json" {
-            call.json = true;
+            return Ok(Asked::Text(command.help()));
         } else {
             take_option(command, &mut call, word, &mut words)?;
         }
     }
+    call.json = call.flag(JSON.name);
     complete(command, &call)?;
     Ok(Asked::Run(call))
 }
 
-/// An option, whose value stands behind `=` or is the next word.
+/// An option, whose value stands after `=` or is the next word. A flag may be given twice: it says the same.
 fn take_option<'a>(
     command: &'static Command,
     call: &mut Call,
@@ -210,17 +300,25 @@ fn take_option<'a>(
 ) -> Result<(), String> {
     let bytes = word.as_bytes();
     let split = bytes.iter().position(|byte| *byte == b'=');
-    let name = OsStr::from_bytes(&bytes[..split.unwrap_or(bytes.len())]).to_string_lossy();
-    let choice = command.options.iter().find(|choice| name.strip_prefix("--") == Some(choice.name));
-    let choice = choice.ok_or_else(|| format!("{} has no option {name}", command.name))?;
-    let behind = split.map(|place| OsStr::from_bytes(&bytes[place + 1..]).to_os_string());
-    let value = behind.or_else(|| rest.next().cloned()).ok_or_else(|| format!("{name} wants {}", choice.value))?;
-    let twice = match choice.most {
-        Some(most) => call.numbers.insert(choice.name, whole_number(&name, &value, most)?).is_some(),
-        None => call.out.replace(value).is_some(),
+    let (name, after) = (&bytes[..split.unwrap_or(bytes.len())], split.map(|place| &bytes[place + 1..]));
+    let choice = command.options.iter().find(|choice| name.strip_prefix(b"--") == Some(choice.name.as_bytes()));
+    let choice = choice.ok_or_else(|| format!("{} has no option {}", command.name, given(OsStr::from_bytes(name))))?;
+    let kind = match (choice.takes, after) {
+        (Takes::Nothing, Some(_)) => return Err(format!("--{} takes no value", choice.name)),
+        (Takes::Nothing, None) => {
+            call.flags.insert(choice.name);
+            return Ok(());
+        }
+        (Takes::Number(kind, _) | Takes::File(kind), _) => kind,
+    };
+    let value = after.map(|bytes| OsStr::from_bytes(bytes).to_os_string()).or_else(|| rest.next().cloned());
+    let value = value.ok_or_else(|| format!("--{} wants {kind}", choice.name))?;
+    let twice = match choice.takes {
+        Takes::Number(_, most) => call.numbers.insert(choice.name, whole_number(choice.name, &value, most)?).is_some(),
+        _ => call.out.replace(value).is_some(),
     };
     if twice {
-        Err(format!("{name} is there twice"))
+        Err(format!("--{} is there twice", choice.name))
     } else {
         Ok(())
     }
@@ -231,7 +329,7 @@ fn whole_number(name: &str, word: &OsStr, most: u32) -> Result<u32, String> {
     let text = word.to_string_lossy();
     let digits = !text.is_empty() && text.bytes().all(|byte| byte.is_ascii_digit());
     let number = if digits { text.parse().ok().filter(|number| *number <= most) } else { None };
-    number.ok_or_else(|| format!("{name} must be a whole number from 0 to {most}, not '{text}'"))
+    number.ok_or_else(|| format!("--{name} must be a whole number from 0 to {most}, not '{}'", given(word)))
 }
 
 /// Whether a call has all that it needs, and no more.
@@ -241,11 +339,11 @@ fn complete(command: &Command, call: &Call) -> Result<(), String> {
         return Err(format!("{} is missing", command.words[given]));
     }
     if given > wanted && !command.many {
-        return Err(format!("'{}' is one word too many", call.words[wanted].to_string_lossy()));
+        return Err(too_many(&call.words[wanted]));
     }
     let missing = command.options.iter().find(|choice| choice.needed && !call.numbers.contains_key(choice.name));
     if let Some(choice) = missing {
-        return Err(format!("--{} {} is missing", choice.name, choice.value));
+        return Err(format!("{} is missing", choice.usage()));
     }
     standard_input(command, call)
 }

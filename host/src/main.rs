@@ -1,29 +1,29 @@
 //! The command `tronalhet`: WAVE files of full size, listed, checked, decoded, copied and added to sides.
-use std::ffi::OsString;
 use std::io::Write;
-use std::path::Path;
 use std::process::ExitCode;
 
 mod call;
 mod commands;
+mod pages;
 mod reading;
 mod shown;
 mod stop;
 mod system;
 mod writing;
 
-/// Called wrongly, and trouble with files, as `sysexits.h` has them.
+/// The name that this speaks under, by whatever name it was called.
+const NAME: &str = "tronalhet";
+
+/// A wrong call, and an I/O error, as `sysexits.h` has them.
 const USAGE: u8 = 64;
 const TROUBLE: u8 = 74;
 
 fn main() -> ExitCode {
-    let mut words = std::env::args_os();
-    let name = own_name(words.next());
-    let status = match call::asked(words.collect()) {
-        Ok(call::Asked::Help(text)) => shown::print(&name, &text),
-        Ok(call::Asked::Run(call)) => commands::run(&name, &call),
+    let status = match call::asked(std::env::args_os().skip(1).collect()) {
+        Ok(call::Asked::Text(text)) => shown::print(NAME, &text),
+        Ok(call::Asked::Run(call)) => commands::run(NAME, &call),
         Err(wrong) => {
-            eprint(&name, &wrong.what);
+            eprint(NAME, &wrong.what);
             eprint("usage", &wrong.usage);
             USAGE
         }
@@ -31,18 +31,7 @@ fn main() -> ExitCode {
     ExitCode::from(status)
 }
 
-/// The name that this was called by.
-fn own_name(word: Option<OsString>) -> String {
-    let word = word.unwrap_or_default();
-    let name = Path::new(&word).file_name().unwrap_or_default().to_string_lossy();
-    if name.is_empty() {
-        "tronalhet".into()
-    } else {
-        name.into()
-    }
-}
-
-/// A line on standard error; where that cannot be written, nobody can be told.
+/// A line on standard error; where that cannot be written, it can be reported nowhere.
 fn eprint(name: &str, line: &str) {
     let _ = writeln!(std::io::stderr(), "{name}: {line}");
 }
