@@ -78,6 +78,13 @@ pub ruleset answering =
     (refused-told, coded-refused, coded-done, written-done, written-refused, decoded-done, decoded-refused, added-done, added-refused)
 
 -- ---- an answer that is the operation's, and the buffer as the operation leaves it
+module _ {x y : Written} (e : x ≡ y) where
+  pub written-told : {r : Answer} → r ≡ ofWritten x → r ≡ ofWritten y
+  written-told f = f ∙ ap ofWritten e
+
+  pub written-held : (ys d : List ℕ) {z : List ℕ} → z ≡ writes.holding x ys d → z ≡ writes.holding y ys d
+  written-held ys d f = f ∙ ap (λ (v : Written). writes.holding v ys d) e
+
 module _ {x y : Decoded} (e : x ≡ y) where
   pub decoded-told : {r : Answer} → r ≡ ofDecoded x → r ≡ ofDecoded y
   decoded-told f = f ∙ ap ofDecoded e
@@ -99,7 +106,7 @@ module _ {x y : Added} (e : x ≡ y) where
   pub added-held : (ys d : List ℕ) {z : List ℕ} → z ≡ adds.holding x ys d → z ≡ adds.holding y ys d
   added-held ys d f = f ∙ ap (λ (v : Added). adds.holding v ys d) e
 
-pub ruleset passing = (decoded-told, decoded-held, encoded-told, encoded-held, added-told, added-held)
+pub ruleset passing = (written-told, written-held, decoded-told, decoded-held, encoded-told, encoded-held, added-told, added-held)
 
 -- ---- room for n elements
 module _ (n room : ℕ) where

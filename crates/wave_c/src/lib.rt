@@ -16,14 +16,14 @@ ghost use lib.ListN.{length};
 ghost use Rattle.units.specs.Refusals.{numberOf, verdictNumber};
 ghost use Rattle.reader.specs.Content.{reading, soundSpot, soundIn};
 ghost use Rattle.riff.specs.Walk.{partOf};
-ghost use Rattle.writer.specs.File.{fileOf};
+ghost use Rattle.writer.specs.File.{fileOf, writing};
 ghost use Rattle.writer.specs.File as writes;
 ghost use Rattle.ima.specs.Encoding.{encodedBytes};
 ghost use Rattle.ima.specs.Answer.{encoding};
 ghost use Rattle.ima.specs.Answer as encodes;
 ghost use Rattle.sound.specs.Decoding.{decoding, blockDecoding, fileSound, fileBlock};
 ghost use Rattle.sound.specs.Decoding as decodes;
-ghost use Rattle.side.specs.Adding.{adding, newFile};
+ghost use Rattle.side.specs.Adding.{adding, newFile, emptySide};
 ghost use Rattle.side.specs.Adding as adds;
 ghost use Rattle.words.specs.Words.{recordWords, recordFrom};
 ghost use Rattle.wave_c.specs.Interface.{refusedBy, done, ofWritten, ofDecoded, ofEncoded, ofAdded, answerBy, keptBy, enough, readVerdict, startOf, wordsFine, wordsWriting};
@@ -253,6 +253,16 @@ pub extern "C" fn tronalhet_encode(
 }
 
 // ---- sides
+
+// Writes a side without songs.
+#[no_mangle]
+pub extern "C" fn tronalhet_empty(channels: u16, rate: u32, out: &mut [u8]) -> Answer
+    ensures { λ r. ⌜ (r ≡ ofWritten (writing (emptySide channels rate) [] (length (now (out .entry)))))
+        × (now (out .exit) ≡ writes.holding (writing (emptySide channels rate) [] (length (now (out .entry)))) (fileOf (emptySide channels rate) []) (now (out .entry))) ⌝ }
+{
+    let answer = wave::empty(channels, rate, out);
+    of_written(answer)
+}
 
 // Adds a song to a side.
 #[no_mangle]
