@@ -3,32 +3,12 @@
  * Each pair of a pointer and a size_t is a lent buffer and how many elements it has; with 0 elements
  * the pointer may be null. A buffer that is written to overlaps no other that is lent with it.
  *
- * Every function takes every input. A refusal is its number in the table below, and 0 is success. Where a
- * function refuses, it has written nothing, and the other numbers that it answers are 0. Where
- * it succeeds, its output stands from the start of the lent buffer, and the rest of that is as it was.
+ * Every function accepts every input. A refusal is its number below, and 0 is success. Where a function
+ * refuses, it has written nothing, and the other numbers that it answers are 0. Where it succeeds, its
+ * output stands from the start of the lent buffer, and the rest of that is as it was.
  *
- *  1  length under 12 or over the limit, 1,073,741,824 bytes or 536,870,912 samples
- *  2  not RIFF, or not WAVE
- *  3  the RIFF size is odd, or is not that of the file
- *  4  a chunk passes the end
- *  5  a second fmt, data, fact, cue or plst
- *  6  data before any fmt
- *  7  a wavl list
- *  8  no fmt or no data
- *  9  channels, rate, tag or any rule of fmt not met; a song that does not suit the side
- * 10  sound data not whole frames or blocks
- * 11  fact absent where needed, too short, or its count wrong
- * 12  cue table wrong
- * 13  playlist wrong
- * 14  lent output too small
- * 15  an ADPCM block header holds an index out of range
- * 16  song without frames, or its number listed with other sound
- * 17  no place on the side
- * 18  already listed, same sound: nothing to do
- * 19  not a side
- * 20  no such block
- *
- * Link with libwave_c.a, which is built for x86-64. */
+ * Link with -ltronalhet: the archive is installed as libtronalhet.a. The build leaves it as
+ * target/staticlib/libwave_c.a. It is for x86-64. examples/side.c is a program to start from. */
 #ifndef TRONALHET_H
 #define TRONALHET_H
 
@@ -39,9 +19,74 @@
 extern "C" {
 #endif
 
-/* A record travels as 393 words: tag, channels, rate, bits, align, samples per block, frames, number of
- * cues, number of entries; 64 cues (name, position, place); 64 entries (name, length, times). */
+#define TRONALHET_VERSION "0.2.0"
+#define TRONALHET_VERSION_MAJOR 0
+#define TRONALHET_VERSION_MINOR 2
+#define TRONALHET_VERSION_PATCH 0
+
+/* The most bytes of a file, and the most samples of a sound that is encoded. */
+#define TRONALHET_MOST_BYTES 1073741824
+#define TRONALHET_MOST_SAMPLES 536870912
+
+/* Success, and the refusals. */
+enum tronalhet_refusal {
+    TRONALHET_ACCEPTED = 0,
+    TRONALHET_LENGTH_OUT_OF_RANGE = 1,      /* under 12 bytes, or over the limit */
+    TRONALHET_NOT_WAVE = 2,                 /* not RIFF, or not WAVE */
+    TRONALHET_RIFF_SIZE_WRONG = 3,          /* the RIFF size is odd, or is not that of the file */
+    TRONALHET_CHUNK_PAST_THE_END = 4,       /* a chunk passes the end */
+    TRONALHET_SECOND_OF_ITS_KIND = 5,       /* a second fmt, data, fact, cue or plst */
+    TRONALHET_DATA_BEFORE_FORMAT = 6,       /* data before any fmt */
+    TRONALHET_WAVE_LIST = 7,                /* a wavl list */
+    TRONALHET_FORMAT_OR_DATA_MISSING = 8,   /* no fmt or no data */
+    TRONALHET_FORMAT_WRONG = 9,             /* channels, rate, tag or any rule of fmt not met; a song that
+                                             * does not suit the side */
+    TRONALHET_NOT_WHOLE_FRAMES = 10,        /* sound data not whole frames or blocks */
+    TRONALHET_FACT_WRONG = 11,              /* fact absent where needed, too short, or its count wrong */
+    TRONALHET_CUES_WRONG = 12,              /* cue table wrong */
+    TRONALHET_PLAYLIST_WRONG = 13,          /* playlist wrong */
+    TRONALHET_OUTPUT_TOO_SMALL = 14,        /* lent output too small */
+    TRONALHET_BLOCK_HEADER_WRONG = 15,      /* an ADPCM block header holds an index out of range */
+    TRONALHET_SONG_EMPTY_OR_DIFFERENT = 16, /* song without frames, or its number listed with other sound */
+    TRONALHET_NO_PLACE_ON_SIDE = 17,        /* 64 songs, or more frames than the limit */
+    TRONALHET_ALREADY_LISTED = 18,          /* already listed, same sound: nothing to do */
+    TRONALHET_NOT_A_SIDE = 19,              /* not a side */
+    TRONALHET_NO_SUCH_BLOCK = 20            /* no such block */
+};
+
+/* A record travels as words. These are their places: a later version appends words and moves none. */
+#define TRONALHET_TAG 0      /* TRONALHET_PCM, TRONALHET_MICROSOFT or TRONALHET_IMA */
+#define TRONALHET_CHANNELS 1 /* 1 or 2 */
+#define TRONALHET_RATE 2     /* frames a second, 1 to 192,000 */
+#define TRONALHET_BITS 3     /* of a sample: 8 or 16 for PCM, else 4 */
+#define TRONALHET_ALIGN 4    /* bytes of a frame of PCM, or of a block */
+#define TRONALHET_SAMPLES 5  /* per block and channel; 1 for PCM */
+#define TRONALHET_FRAMES 6
+#define TRONALHET_CUES 7    /* how many there are */
+#define TRONALHET_ENTRIES 8 /* how many the playlist has */
+#define TRONALHET_FIRST_CUE 9
+#define TRONALHET_FIRST_ENTRY 201
 #define TRONALHET_RECORD_WORDS 393
+
+/* Cue i starts at word TRONALHET_FIRST_CUE + TRONALHET_CUE_WORDS * i, counted from 0. */
+#define TRONALHET_CUE_WORDS 3
+#define TRONALHET_CUE_NAME 0     /* the number of a song on a side */
+#define TRONALHET_CUE_POSITION 1 /* kept as it was read */
+#define TRONALHET_CUE_PLACE 2    /* in frames from the start of the sound */
+
+/* Entry i starts at word TRONALHET_FIRST_ENTRY + TRONALHET_ENTRY_WORDS * i. */
+#define TRONALHET_ENTRY_WORDS 3
+#define TRONALHET_ENTRY_NAME 0   /* of the cue where it starts */
+#define TRONALHET_ENTRY_LENGTH 1 /* in frames */
+#define TRONALHET_ENTRY_TIMES 2  /* how often it is played */
+
+/* There is room for so many cues and for so many entries; words past the counts are 0. */
+#define TRONALHET_MOST_ENTRIES 64
+
+/* Tags. */
+#define TRONALHET_PCM 1
+#define TRONALHET_MICROSOFT 2
+#define TRONALHET_IMA 17
 
 typedef struct {
     uint32_t refusal;
@@ -55,7 +100,7 @@ typedef struct {
     size_t n;       /* bytes of the blocks */
 } tronalhet_coded;
 
-/* The record of a file. 14, after the reader's refusals, where there is no room for 393 words. */
+/* The record of a file. 14, after the reader's refusals, where there is no room for its words. */
 uint32_t tronalhet_read(const uint8_t *file, size_t file_bytes, uint32_t *record, size_t record_words);
 
 /* Where a file's sound starts, in start[0], and how many bytes it has, in n. 14, after the reader's
@@ -78,7 +123,14 @@ tronalhet_answer tronalhet_decode_block(const uint8_t *file, size_t file_bytes, 
 tronalhet_coded tronalhet_encode(const int16_t *sound, size_t sound_samples, uint16_t channels, uint16_t align,
                                  uint8_t *out, size_t out_bytes);
 
-/* Writes a side with one song more; n is the bytes of the new side. limit is the most frames of a side. */
+/* Writes a side without songs, which has TRONALHET_EMPTY_BYTES; n says so too. 9 but for 1 or 2 channels
+ * and a rate of 1 to 192,000; then 14. */
+#define TRONALHET_EMPTY_BYTES 44
+tronalhet_answer tronalhet_empty(uint16_t channels, uint32_t rate, uint8_t *out, size_t out_bytes);
+
+/* Writes a side with one song more; n is the bytes of the new side, at most
+ * side_bytes + song_bytes + TRONALHET_ADDED_BYTES. limit is the most frames of a side. */
+#define TRONALHET_ADDED_BYTES 16
 tronalhet_answer tronalhet_add(const uint8_t *side, size_t side_bytes, const uint8_t *song, size_t song_bytes,
                                uint32_t number, uint32_t limit, uint8_t *out, size_t out_bytes);
 

@@ -13,6 +13,7 @@ struct functions {
     tronalhet_answer (*decode)(const uint8_t *, size_t, int16_t *, size_t);
     tronalhet_answer (*decode_block)(const uint8_t *, size_t, uint32_t, int16_t *, size_t);
     tronalhet_coded (*encode)(const int16_t *, size_t, uint16_t, uint16_t, uint8_t *, size_t);
+    tronalhet_answer (*empty)(uint16_t, uint32_t, uint8_t *, size_t);
     tronalhet_answer (*add)(const uint8_t *, size_t, const uint8_t *, size_t, uint32_t, uint32_t, uint8_t *,
                             size_t);
 };

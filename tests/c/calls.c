@@ -286,6 +286,44 @@ static void check_read_formats(void)
     CHECK(memcmp(record_out + 9, zeros, sizeof zeros) == 0);
 }
 
+/* The places of a record's words by their names: these files tell any two places apart. */
+static void check_places(void)
+{
+    const uint32_t *cue = record_out + TRONALHET_FIRST_CUE;
+    const uint32_t *entry = record_out + TRONALHET_FIRST_ENTRY;
+    uint8_t file[112];
+    CHECK(tronalhet_read(cue_file, 112, record_out, WORDS) == TRONALHET_ACCEPTED);
+    CHECK(record_out[TRONALHET_TAG] == TRONALHET_PCM && record_out[TRONALHET_BITS] == 16);
+    CHECK(record_out[TRONALHET_CUES] == 1 && record_out[TRONALHET_ENTRIES] == 1);
+    CHECK(cue[TRONALHET_CUE_NAME] == 7 && cue[TRONALHET_CUE_POSITION] == 9 && cue[TRONALHET_CUE_PLACE] == 1);
+    CHECK(entry[TRONALHET_ENTRY_NAME] == 7 && entry[TRONALHET_ENTRY_LENGTH] == 3);
+    CHECK(entry[TRONALHET_ENTRY_TIMES] == 2);
+    memcpy(file, cue_file, sizeof cue_file);
+    memcpy(file + 72, "skip", 4);
+    CHECK(tronalhet_read(file, 112, record_out, WORDS) == TRONALHET_ACCEPTED);
+    CHECK(record_out[TRONALHET_CUES] == 1 && record_out[TRONALHET_ENTRIES] == 0);
+    memcpy(file, ima_file, sizeof ima_file);
+    file[48] = 5;
+    CHECK(tronalhet_read(file, 72, record_out, WORDS) == TRONALHET_ACCEPTED);
+    CHECK(record_out[TRONALHET_TAG] == TRONALHET_IMA && record_out[TRONALHET_CHANNELS] == 1);
+    CHECK(record_out[TRONALHET_RATE] == 8000 && record_out[TRONALHET_BITS] == 4);
+    CHECK(record_out[TRONALHET_ALIGN] == 12 && record_out[TRONALHET_SAMPLES] == 17);
+    CHECK(record_out[TRONALHET_FRAMES] == 5 && record_out[TRONALHET_CUES] == 0);
+    CHECK(tronalhet_read(microsoft_file, 98, record_out, WORDS) == TRONALHET_ACCEPTED);
+    CHECK(record_out[TRONALHET_TAG] == TRONALHET_MICROSOFT && record_out[TRONALHET_SAMPLES] == 4);
+}
+
+/* The last cue and the last entry are those before what comes next, and the version is its three numbers. */
+static void check_counts(void)
+{
+    char version[32];
+    CHECK(TRONALHET_FIRST_CUE + TRONALHET_CUE_WORDS * TRONALHET_MOST_ENTRIES == TRONALHET_FIRST_ENTRY);
+    CHECK(TRONALHET_FIRST_ENTRY + TRONALHET_ENTRY_WORDS * TRONALHET_MOST_ENTRIES == TRONALHET_RECORD_WORDS);
+    snprintf(version, sizeof version, "%d.%d.%d", TRONALHET_VERSION_MAJOR, TRONALHET_VERSION_MINOR,
+             TRONALHET_VERSION_PATCH);
+    CHECK(strcmp(version, TRONALHET_VERSION) == 0);
+}
+
 static void check_sound(void)
 {
     size_t start[2] = {77, 78};
@@ -577,6 +615,57 @@ static void check_encode_refusals(void)
     CHECK(buffers_are_untouched());
 }
 
+/* Channels and rates that no side has: more than two channels also where twice as many bytes, or the bytes
+ * of a second, would be another number in 16 or 32 bits. */
+static const struct {
+    int line;
+    uint16_t channels;
+    uint32_t rate;
+} no_sides[] = {
+    {__LINE__, 0, 8000},
+    {__LINE__, 3, 8000},
+    {__LINE__, 32768, 8000},
+    {__LINE__, 32769, 8000},
+    {__LINE__, 32770, 8000},
+    {__LINE__, 65535, 8000},
+    {__LINE__, 1, 0},
+    {__LINE__, 2, 192001},
+    {__LINE__, 1, 1073741824},
+    {__LINE__, 2, 1073741824},
+    {__LINE__, 1, 4294967295u},
+    {__LINE__, 0, 0},
+};
+
+/* An empty side is 44 bytes, whatever its format; 9 comes before 14. */
+static void check_empty(void)
+{
+    const uint8_t stereo_side[44] = {
+        'R', 'I', 'F', 'F', 36, 0, 0, 0, 'W', 'A', 'V', 'E',
+        'f', 'm', 't', ' ', 16, 0, 0, 0, 1, 0, 2, 0, 0x00, 0xEE, 0x02, 0, 0x00, 0xB8, 0x0B, 0, 4, 0, 16, 0,
+        'd', 'a', 't', 'a', 0, 0, 0, 0};
+    CHECK(TRONALHET_EMPTY_BYTES == 44);
+    fill_buffers();
+    CHECK(gives(tronalhet_empty(1, 8000, out, 44), 44));
+    CHECK(memcmp(out, empty_side, 44) == 0);
+    CHECK(is_filled(out + 44, sizeof out - 44));
+    fill_buffers();
+    CHECK(gives(tronalhet_empty(2, 192000, out, ROOM), 44));
+    CHECK(memcmp(out, stereo_side, 44) == 0);
+    CHECK(is_filled(out + 44, sizeof out - 44));
+    CHECK(gives(tronalhet_empty(1, 1, out, 45), 44));
+    fill_buffers();
+    for (size_t i = 0; i < sizeof no_sides / sizeof no_sides[0]; i++) {
+        tronalhet_answer answer = tronalhet_empty(no_sides[i].channels, no_sides[i].rate, out, ROOM);
+        check(refuses(answer, 9), no_sides[i].line, "no side has this format");
+        answer = tronalhet_empty(no_sides[i].channels, no_sides[i].rate, NULL, 0);
+        check(refuses(answer, 9), no_sides[i].line, "no side has this format, before 14");
+    }
+    CHECK(refuses(tronalhet_empty(1, 8000, out, 43), 14));
+    CHECK(refuses(tronalhet_empty(1, 8000, out, 0), 14));
+    CHECK(refuses(tronalhet_empty(2, 192000, NULL, 0), 14));
+    CHECK(buffers_are_untouched());
+}
+
 /* The second song of a side: position and place are the frames before it. */
 static void check_second_song(void)
 {
@@ -600,6 +689,7 @@ static void check_add(void)
     CHECK(gives(tronalhet_add(empty_side, 44, song_file, 48, 5, 2, out, 108), 108));
     CHECK(memcmp(out, side_of_one, 108) == 0);
     CHECK(is_filled(out + 108, sizeof out - 108));
+    CHECK(44 + 48 + TRONALHET_ADDED_BYTES == 108);
     fill_buffers();
     CHECK(gives(tronalhet_add(empty_side, 44, song_file, 48, 5, 4294967295u, out, ROOM), 108));
     CHECK(memcmp(out, side_of_one, 108) == 0);
@@ -708,6 +798,8 @@ int main(void)
     check_faults();
     check_read();
     check_read_formats();
+    check_places();
+    check_counts();
     check_sound();
     check_write();
     check_write_odd();
@@ -717,6 +809,7 @@ int main(void)
     check_encode();
     check_encode_channels();
     check_encode_refusals();
+    check_empty();
     check_add();
     check_second_song();
     check_add_misfits();

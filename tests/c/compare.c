@@ -14,16 +14,17 @@ enum { DEFAULT_COUNT = 400000, DEFAULT_SEED = 1992, GUARD = 64, REFUSALS = 21 };
 
 static const struct functions library = {"library",        tronalhet_read,   tronalhet_sound,
                                          tronalhet_write,  tronalhet_decode, tronalhet_decode_block,
-                                         tronalhet_encode, tronalhet_add};
+                                         tronalhet_encode, tronalhet_empty,  tronalhet_add};
 
-static const struct functions second = {"second",      second_read,         second_sound,  second_write,
-                                        second_decode, second_decode_block, second_encode, second_add};
+static const struct functions second = {"second",      second_read,   second_sound,
+                                        second_write,  second_decode, second_decode_block,
+                                        second_encode, second_empty,  second_add};
 
 static const char *const names[OPERATIONS] = {"read",         "sound",  "write", "decode",
-                                              "decode_block", "encode", "add"};
+                                              "decode_block", "encode", "empty", "add"};
 
 /* The bytes of one element of each operation's output. */
-static const size_t widths[OPERATIONS] = {4, sizeof(size_t), 1, 2, 2, 1, 1};
+static const size_t widths[OPERATIONS] = {4, sizeof(size_t), 1, 2, 2, 1, 1, 1};
 
 /* The refusals that each operation can give, one bit each, 0 for success. Refusal 1 of write and encode
  * needs a gigabyte and is not among them. */
@@ -36,6 +37,7 @@ static const unsigned long expected[OPERATIONS] = {
     BIT(0) | BITS_1_TO_13 | BIT(14) | BIT(15),
     BIT(0) | BITS_1_TO_13 | BIT(14) | BIT(15) | BIT(20),
     BIT(0) | BIT(9) | BIT(10) | BIT(14),
+    BIT(0) | BIT(9) | BIT(14),
     BIT(0) | BITS_1_TO_13 | BIT(14) | BIT(16) | BIT(17) | BIT(18) | BIT(19),
 };
 
@@ -99,6 +101,8 @@ static struct outcome run(const struct functions *functions, const struct call *
     case ENCODE:
         coded = functions->encode(samples, call->samples.count / 2, call->channels, call->align, out, room);
         return (struct outcome){coded.refusal, coded.left, coded.right, coded.n};
+    case EMPTY:
+        return of_answer(functions->empty(call->channels, call->rate, out, room));
     default:
         return of_answer(functions->add(file, bytes, lent(call, &call->song), call->song.count, call->number,
                                         call->limit, out, room));
@@ -203,6 +207,10 @@ static void print_call(const struct call *call)
         printf("  block %" PRIu32 "\n", call->block);
     if (call->operation == ENCODE)
         printf("  channels %d, align %d\n", call->channels, call->align);
+    if (call->operation == EMPTY) {
+        printf("  channels %d, rate %" PRIu32 "\n", call->channels, call->rate);
+        return;
+    }
     if (call->operation == ADD)
         printf("  number %" PRIu32 ", limit %" PRIu32 "\n", call->number, call->limit);
     if (call->operation == ENCODE)

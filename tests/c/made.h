@@ -103,7 +103,7 @@ struct worn {
 
 void wear_file(struct luck *luck, struct worn *worn, struct made_file *file);
 
-enum operation { READ, SOUND, WRITE, DECODE, DECODE_BLOCK, ENCODE, ADD, OPERATIONS };
+enum operation { READ, SOUND, WRITE, DECODE, DECODE_BLOCK, ENCODE, EMPTY, ADD, OPERATIONS };
 enum { CALL_WORDS = 400 };
 
 /* What one call takes, without its output. */
@@ -116,6 +116,7 @@ struct call {
     size_t word_count;
     uint16_t channels;
     uint16_t align;
+    uint32_t rate;
     uint32_t block;
     uint32_t number;
     uint32_t limit;

@@ -1,5 +1,5 @@
-/* Calls: files for the reading operations, records and sounds for writing, sounds for encoding, sides and
- * songs for adding. */
+/* Calls: files for the reading operations, records and sounds for writing, sounds for encoding, formats for
+ * empty sides, sides and songs for adding. */
 #include "made.h"
 #include "second.h"
 
@@ -191,6 +191,14 @@ static void make_encode_call(struct luck *luck, struct call *call)
     call->align = (uint16_t)align;
 }
 
+/* Channels and a rate, at their borders, and channels whose double does not fit 16 bits. */
+static void make_empty_call(struct luck *luck, struct call *call)
+{
+    bool other = luck_one_in(luck, 4);
+    call->channels = (uint16_t)(other ? PICK(luck, 0, 3, 32768, 32769, 32770, 65535) : PICK(luck, 1, 2));
+    call->rate = luck_one_in(luck, 2) ? luck_border(luck, 192000) : 1 + luck_below(luck, 192000);
+}
+
 /* The plan of a file that the second implementation takes. */
 static void plan_of_file(const uint8_t *file, size_t file_bytes, struct plan *plan)
 {
@@ -337,10 +345,10 @@ static void make_add_call(struct maker *maker, struct luck *luck, struct call *c
 
 void make_call(struct maker *maker, uint64_t number, struct luck *luck, struct call *call)
 {
-    static const enum operation turns[20] = {READ,  WRITE,  ADD,   DECODE, READ,         SOUND, WRITE,
-                                             ADD,   ENCODE, READ,  WRITE,  DECODE_BLOCK, ADD,   DECODE,
-                                             SOUND, READ,   WRITE, ENCODE, DECODE_BLOCK, DECODE};
-    call->operation = turns[number % 20];
+    static const enum operation turns[21] = {READ,  WRITE,  ADD,   DECODE, READ,         SOUND,  WRITE,
+                                             ADD,   ENCODE, READ,  WRITE,  DECODE_BLOCK, ADD,    DECODE,
+                                             SOUND, READ,   WRITE, ENCODE, DECODE_BLOCK, DECODE, EMPTY};
+    call->operation = turns[number % 21];
     call->null_when_empty = luck_one_in(luck, 2);
     call->on_growing_side = false;
     call->file.count = 0;
@@ -351,6 +359,8 @@ void make_call(struct maker *maker, uint64_t number, struct luck *luck, struct c
         make_write_call(maker, luck, call);
     else if (call->operation == ENCODE)
         make_encode_call(luck, call);
+    else if (call->operation == EMPTY)
+        make_empty_call(luck, call);
     else if (call->operation == ADD)
         make_add_call(maker, luck, call);
     else

@@ -20,6 +20,8 @@ tronalhet_answer second_decode_block(const uint8_t *file, size_t file_bytes, uin
 tronalhet_coded second_encode(const int16_t *sound, size_t sound_samples, uint16_t channels, uint16_t align,
                               uint8_t *out, size_t out_bytes);
 
+tronalhet_answer second_empty(uint16_t channels, uint32_t rate, uint8_t *out, size_t out_bytes);
+
 tronalhet_answer second_add(const uint8_t *side, size_t side_bytes, const uint8_t *song, size_t song_bytes,
                             uint32_t number, uint32_t limit, uint8_t *out, size_t out_bytes);
 

@@ -1,4 +1,4 @@
-/* Sides: what a side is, and a side with one song more. */
+/* Sides: what a side is, one without songs, and one with one song more. */
 #include "second.h"
 #include "second_parts.h"
 
@@ -20,6 +20,19 @@ static bool is_side(const struct record *record)
         tiled += entry->length;
     }
     return tiled == record->frames;
+}
+
+tronalhet_answer second_empty(uint16_t channels, uint32_t rate, uint8_t *out, size_t out_bytes)
+{
+    struct record record = {
+        .tag = PCM, .channels = channels, .rate = rate, .bits = 16, .align = 2u * channels, .samples = 1};
+    if (!format_is_right(&record))
+        return (tronalhet_answer){9, 0};
+    uint64_t bytes = written_bytes(&record, 0);
+    if (bytes > out_bytes)
+        return (tronalhet_answer){14, 0};
+    put_before_sound(&record, 0, out);
+    return (tronalhet_answer){0, (size_t)bytes};
 }
 
 /* 9: the song is 16-bit PCM of the side's channels and rate. */
