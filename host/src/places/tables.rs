@@ -1,104 +1,118 @@
 //! What is wrong with `cue ` or `plst`.
-use super::{find, number, Chunk, Code, Place};
+use super::chunks::{find, Chunk, Code, Field};
+use super::format::{Fmt, ALIGN, TAG};
+use super::Place;
 use crate::record::{Format, MOST_ENTRIES};
 use crate::units::{BytePlace, Donation};
 
-/// The frames of a file whose sound and `fact` were taken.
+pub const COUNT: Field = Field("count", 0, 4);
+
+/// Fields of a cue point, and of an entry of the playlist.
+pub const NAME: Field = Field("name", 0, 4);
+const CODE: Field = Field("chunk code", 8, 4);
+const CHUNK_START: Field = Field("chunk start", 12, 4);
+const BLOCK_START: Field = Field("block start", 16, 4);
+pub const OFFSET: Field = Field("sample offset", 20, 4);
+pub const LENGTH: Field = Field("length", 4, 4);
+pub const TIMES: Field = Field("times", 8, 4);
+
+/// How many bytes a cue point has, and an entry of the playlist.
+pub const CUE_BYTES: usize = 24;
+pub const PLAY_BYTES: usize = 12;
+
+/// The frames of a file whose sound and `fact` were accepted.
 fn frames(file: &[u8]) -> Option<u32> {
-    let format = find(file, b"fmt ")?;
-    let align = number(format.data(file), 12, 2);
-    match number(format.data(file), 0, 2) as u16 {
-        Format::PCM => Some(find(file, b"data")?.size as u32 / align.max(1)),
-        _ => Some(number(find(file, b"fact")?.data(file), 0, 4)),
+    let fmt = Fmt::of(file)?;
+    match fmt.get(TAG) as u16 {
+        Format::PCM => Some(find(file, b"data")?.size as u32 / fmt.get(ALIGN).max(1)),
+        _ => Some(COUNT.of(find(file, b"fact")?.data(file))),
     }
 }
 
-/// A table's entries, each with its place in the file, or what is wrong with its count and size.
-fn entries<'a>(file: &'a [u8], chunk: &Chunk, each: usize) -> Result<Vec<(usize, &'a [u8])>, Option<Place>> {
+/// A table's entries, or what is wrong with its count and size.
+fn entries<'a>(file: &'a [u8], chunk: &Chunk, each: usize) -> Result<Vec<&'a [u8]>, Place> {
     let data = chunk.data(file);
-    let count = number(data, 0, 4) as usize;
+    let count = COUNT.of(data) as usize;
     if data.len() < 4 {
-        return Err(chunk.fault(format!("it has {} bytes, which is too short for its count", data.len())));
+        return Err(chunk.size_fault(format!("it is {}; 4 or more are needed", data.len())));
     }
     if count > MOST_ENTRIES {
-        return Err(chunk.fault(format!("it says {count} entries, and {MOST_ENTRIES} are the most")));
+        return Err(chunk.field_fault(COUNT, format!("it is {count}, and {MOST_ENTRIES} is the most")));
     }
     if data.len() != 4 + each * count {
         let right = 4 + each * count;
-        return Err(chunk.fault(format!("it has {} bytes, and {count} entries have {right}", data.len())));
+        return Err(chunk.size_fault(format!("it is {}, and must be {right} for a count of {count}", data.len())));
     }
-    let start = chunk.start() + 4;
-    Ok(data[4..].chunks_exact(each).enumerate().map(|(i, entry)| (start + each * i, entry)).collect())
+    Ok(data[4..].chunks_exact(each).collect())
 }
 
-/// A fault of an entry, with the cue that it names.
-fn entry_fault(chunk: &Chunk, byte: usize, name: u32, what: String) -> Option<Place> {
-    let (byte, cue) = (Some(BytePlace(byte)), Some(Donation(name)));
-    Some(Place { byte, cue, ..chunk.fault(what)? })
+/// A fault of a field of an entry, counted from 0, with the cue that it is about.
+pub fn entry_fault(chunk: &Chunk, each: usize, turn: usize, field: Field, cue: Donation, what: String) -> Place {
+    let byte = chunk.start() + 4 + each * turn + field.1;
+    Place { byte: Some(BytePlace(byte)), cue: Some(cue), ..chunk.field_fault(field, what) }
 }
 
 pub fn cues(file: &[u8]) -> Option<Place> {
     let chunk = find(file, b"cue ")?;
     let frames = frames(file)?;
-    let list = match entries(file, &chunk, 24) {
+    let list = match entries(file, &chunk, CUE_BYTES) {
         Ok(list) => list,
-        Err(place) => return place,
+        Err(place) => return Some(place),
     };
-    let names: Vec<u32> = list.iter().map(|(_, entry)| number(entry, 0, 4)).collect();
-    list.iter().enumerate().find_map(|(i, (byte, entry))| {
-        let what = if names[..i].contains(&names[i]) {
-            "another cue has the same name".to_string()
+    let names: Vec<u32> = list.iter().map(|entry| NAME.of(entry)).collect();
+    list.iter().enumerate().find_map(|(turn, entry)| {
+        let (field, what) = if names[..turn].contains(&names[turn]) {
+            (NAME, "another cue has the same name".to_string())
         } else {
             cue_fault(entry, frames)?
         };
-        entry_fault(&chunk, *byte, names[i], what)
+        Some(entry_fault(&chunk, CUE_BYTES, turn, field, Donation(names[turn]), what))
     })
 }
 
 /// What is wrong with a cue point by itself.
-fn cue_fault(entry: &[u8], frames: u32) -> Option<String> {
-    let code = Code([entry[8], entry[9], entry[10], entry[11]]);
-    let (start, block, offset) = (number(entry, 12, 4), number(entry, 16, 4), number(entry, 20, 4));
+fn cue_fault(entry: &[u8], frames: u32) -> Option<(Field, String)> {
+    let code = Code::at(entry, CODE.1);
+    let offset = OFFSET.of(entry);
     if &code.0 != b"data" {
-        return Some(format!("its chunk is '{code}', and must be 'data'"));
+        return Some((CODE, format!("it is '{code}', and must be 'data'")));
     }
-    if start != 0 {
-        return Some(format!("its chunk start is {start}, and must be 0"));
+    if let Some(field) = [CHUNK_START, BLOCK_START].into_iter().find(|field| field.of(entry) != 0) {
+        return Some((field, format!("it is {}, and must be 0", field.of(entry))));
     }
-    if block != 0 {
-        return Some(format!("its block start is {block}, and must be 0"));
-    }
-    (offset >= frames).then(|| format!("it is at frame {offset}, and the sound has {frames} frames"))
+    let what = format!("it is {offset}; the sound has {frames} frames, counted from 0");
+    (offset >= frames).then(|| (OFFSET, what))
 }
 
 pub fn playlist(file: &[u8]) -> Option<Place> {
     let chunk = find(file, b"plst")?;
     let frames = frames(file)?;
-    let list = match entries(file, &chunk, 12) {
+    let list = match entries(file, &chunk, PLAY_BYTES) {
         Ok(list) => list,
-        Err(place) => return place,
+        Err(place) => return Some(place),
     };
-    let cues = find(file, b"cue ").and_then(|cues| entries(file, &cues, 24).ok()).unwrap_or_default();
-    list.iter().find_map(|(byte, entry)| {
-        let name = number(entry, 0, 4);
-        let place = cues.iter().find(|(_, cue)| number(cue, 0, 4) == name).map(|(_, cue)| number(cue, 20, 4));
-        entry_fault(&chunk, *byte, name, play_fault(entry, place, frames)?)
+    let cues = find(file, b"cue ").and_then(|cues| entries(file, &cues, CUE_BYTES).ok()).unwrap_or_default();
+    list.iter().enumerate().find_map(|(turn, entry)| {
+        let name = NAME.of(entry);
+        let start = cues.iter().find(|cue| NAME.of(cue) == name).map(|cue| OFFSET.of(cue));
+        let (field, what) = play_fault(entry, start, frames)?;
+        Some(entry_fault(&chunk, PLAY_BYTES, turn, field, Donation(name), what))
     })
 }
 
-/// What is wrong with an entry whose cue is at a place, if there is such a cue.
-fn play_fault(entry: &[u8], place: Option<u32>, frames: u32) -> Option<String> {
-    let (length, times) = (number(entry, 4, 4), number(entry, 8, 4));
-    let place = match place {
-        Some(place) => place,
-        None => return Some("there is no such cue".into()),
+/// What is wrong with an entry whose cue is at a frame, if there is such a cue.
+fn play_fault(entry: &[u8], start: Option<u32>, frames: u32) -> Option<(Field, String)> {
+    let (length, times) = (LENGTH.of(entry), TIMES.of(entry));
+    let start = match start {
+        Some(start) => start,
+        None => return Some((NAME, "there is no such cue".into())),
     };
     if length == 0 {
-        return Some("it plays no frames".into());
+        return Some((LENGTH, "it is 0; 1 or more frames are needed".into()));
     }
-    let end = u64::from(place) + u64::from(length);
+    let end = u64::from(start) + u64::from(length);
     if end > frames.into() {
-        return Some(format!("it plays frames {place} to {end}, and the sound has {frames} frames"));
+        return Some((LENGTH, format!("it is {length}, from frame {start} to {end}; the sound has {frames} frames")));
     }
-    (times == 0).then(|| "it is played 0 times".to_string())
+    (times == 0).then(|| (TIMES, "it is 0; 1 or more are needed".into()))
 }
