@@ -93,8 +93,8 @@ def part(runs, sizes, bars):
     say('bench: growth, guest instructions')
     counts = counted(runs, sizes)
     times = timed(runs, sizes) if NATIVE else {}
-    yield ('Reading walks the chunks and passes over the sound, so its work is the same at every size and whatever the '
-           'sound is.')
+    yield ('Reading walks the chunks and passes over the sound, so its work is the same at every size and for every '
+           'sound.')
     yield ''
     yield from table(['Job', 'File', 'Instructions', 'Time', 'Bar', 'Verdict'],
                      list(read_rows(counts, times, sizes, bars)))
@@ -108,8 +108,8 @@ def part(runs, sizes, bars):
     if not NATIVE:
         yield NO_TIMES
         return
-    yield ('Times, the copies against both kinds of memcpy, by SSE2 and this machine\'s own. Above some size, which '
-           'goes by the caches, glibc stores past the caches, in both of them; the library does not.')
+    yield ('Times, the copies against both kinds of memcpy, by SSE2 and this machine\'s own. Above a size that '
+           'depends on the caches, glibc stores past the caches, in both of them; the library does not.')
     yield ''
     yield from table(['Job', 'Size', 'Time', 'ns for each byte', f'Against {size_name(sizes[0])}', 'Library / SSE2',
                       'Library / own'], list(time_rows(times, sizes)))

@@ -85,7 +85,7 @@ def part(program, sizes, bars):
         peak, time = long_list()
     finally:
         shutil.rmtree(FILES, ignore_errors=True)
-    yield ('The most memory that `tronalhet` has at any time, in MB, beside the sizes of the files that it reads and '
+    yield ('The most memory that `tronalhet` has at any time, in MB, next to the sizes of the files that it reads and '
            'writes. The ratio is of the peak to the files and 16 MiB.')
     yield ''
     yield from table(['Command', 'Input', 'Files', 'Peak', 'Ratio', 'Bar', 'Verdict'], lines)

@@ -123,7 +123,7 @@ def time_part(times, rounds):
         yield NO_TIMES
         return
     yield (f'The best of {rounds} rounds of runs, the contestants in turn. Times have no bar against plain C and the '
-           'copy; whether they are within 1.1 too is said beside them. A time differs by some hundredths from run to '
+           'copy; the last columns say whether they are within 1.1 too. A time differs by some hundredths from run to '
            'run.')
     for size, found in times.items():
         yield ''
@@ -162,7 +162,7 @@ def sndfile_part(runs, counts, times, bars):
     if not runs.has('sndfile'):
         yield NO_SNDFILE
         return
-    yield ('The library\'s instructions and times as a part of libsndfile\'s, which reads and writes whole sounds in '
+    yield ('The library\'s instructions and times divided by libsndfile\'s, which reads and writes whole sounds in '
            'memory by `sf_open_virtual`. Both give the same bytes; only Microsoft samples differ, since libsndfile '
            'rounds the prediction down. It hands 16-bit PCM to memcpy in one go. It does not add songs.')
     yield ''

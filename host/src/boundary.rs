@@ -50,6 +50,8 @@ extern "C" {
         out_bytes: usize,
     ) -> CodedAnswer;
 
+    pub fn tronalhet_empty(channels: u16, rate: u32, out: *mut u8, out_bytes: usize) -> Answer;
+
     pub fn tronalhet_add(
         side: *const u8,
         side_bytes: usize,

@@ -1,43 +1,33 @@
-//! The six commands: what each reads, asks the library, writes and tells.
+//! The six commands: what each reads, asks the library, writes and reports.
+use crate::answer::{say, text, Answer, Told};
 use crate::call::Call;
-use crate::reading::{glance, whole};
-use crate::shown::{print, Json};
+use crate::eprint;
+use crate::reading::{glance, is_stream, whole};
+use crate::shown::Json;
 use crate::stop::{shown, Stop};
 use crate::writing::Target;
-use crate::{eprint, TROUBLE};
-use std::ffi::OsStr;
-use tronalhet::places::{of_adding, Place, Which};
+use std::ffi::{OsStr, OsString};
+use tronalhet::places::{left_out, of_adding, way_out_of_adding, Which};
 use tronalhet::{Donation, Fault, Frames, Record, Refusal};
 
 /// How many bytes a block of an approval copy has where nothing else is said.
 const USUAL_ALIGN: u32 = 1024;
 
-/// What a command tells: lines for people, and the same for scripts.
-struct Told {
-    lines: Vec<String>,
-    fields: Vec<(&'static str, Json)>,
-}
-
-type Answer = Result<Told, Stop>;
-
-/// Facts that are one number each, which is how most of what is told looks.
-fn told(facts: &[(&'static str, usize)]) -> Told {
-    Told {
-        lines: facts.iter().map(|(name, number)| format!("{} {number}", name.replace('_', " "))).collect(),
-        fields: facts.iter().map(|(name, number)| (*name, Json::Number(*number as u64))).collect(),
-    }
-}
+/// The chunks that a new file says again: those of the sound, and the two tables beside it.
+const SOUND: &[&[u8; 4]] = &[b"fmt ", b"fact", b"data"];
+const ALL: &[&[u8; 4]] = &[b"fmt ", b"fact", b"data", b"cue ", b"plst"];
 
 /// Runs a command; its exit status, of several files that of the first that is not accepted.
 pub fn run(name: &str, call: &Call) -> u8 {
     let first = &call.words[0];
     if call.command == "check" {
-        let said: Vec<u8> = call.words.iter().map(|file| say(name, call, file, check(file))).collect();
+        let checked = |file: &OsString| say(name, call, file, check(file, call.flag("sound")));
+        let said: Vec<u8> = call.words.iter().map(checked).collect();
         return said.into_iter().find(|status| *status != 0).unwrap_or(0);
     }
     let answer = match call.command {
         "list" => list(first),
-        "decode" => decode(first, &call.words[1]),
+        "decode" => decode(first, &call.words[1], call),
         "encode" => encode(first, &call.words[1], call),
         "add" => add(name, call),
         _ => new_side(name, call),
@@ -45,63 +35,24 @@ pub fn run(name: &str, call: &Call) -> u8 {
     say(name, call, first, answer)
 }
 
-// ---- what is said
+// ---- what is read
 
-/// Prints an answer about a file, and then on standard error what it means; its exit status.
-fn say(name: &str, call: &Call, about: &OsStr, answer: Answer) -> u8 {
-    let about = shown(about);
-    let front = if call.words.len() > 1 && call.command == "check" { format!("{about}: ") } else { String::new() };
-    let (lines, mut fields, meaning, status) = match answer {
-        Ok(Told { lines, fields }) => (lines, fields, vec![], 0),
-        Err(Stop::Trouble(what)) => (vec![], vec![("trouble", Json::Text(what.clone()))], vec![what], TROUBLE),
-        Err(Stop::Refused { refusal, file, place }) => {
-            let mut meaning = vec![format!("{front}{} means: {}", refusal.number(), refusal.meaning())];
-            meaning.extend(place.iter().map(|place| format!("{file}: {place}")));
-            let status = if refusal == Refusal::AlreadyListed { 0 } else { refusal.number() };
-            (vec![refusal.to_string()], refused(refusal, file, place), meaning, status)
-        }
-    };
-    let text: String = if call.json {
-        fields.insert(0, ("file", Json::Text(about)));
-        format!("{}\n", Json::Object(fields))
-    } else {
-        lines.iter().map(|line| format!("{front}{line}\n")).collect()
-    };
-    let printed = print(name, &text);
-    meaning.iter().for_each(|line| eprint(name, line));
-    printed.max(status)
-}
-
-/// A refusal for scripts.
-fn refused(refusal: Refusal, file: String, place: Option<Place>) -> Vec<(&'static str, Json)> {
-    let mut fields =
-        vec![("refused", Json::Number(refusal.number().into())), ("meaning", Json::Text(refusal.meaning().into()))];
-    if let Some(Place { chunk, byte, cue, block, what }) = place {
-        let parts = [
-            Some(("file", Json::Text(file))),
-            chunk.map(|code| ("chunk", Json::Text(code.to_string()))),
-            byte.map(|byte| ("byte", Json::Number(byte.0 as u64))),
-            cue.map(|cue| ("cue", Json::Number(cue.0.into()))),
-            block.map(|block| ("block", Json::Number(block.into()))),
-            Some(("what", Json::Text(what))),
-        ];
-        fields.push(("where", Json::Object(parts.into_iter().flatten().collect())));
+fn check(name: &OsStr, sound: bool) -> Answer {
+    let told = Told::line("accepted");
+    if sound {
+        let file = whole(name)?;
+        tronalhet::check_sound(&file).map_err(|fault| Stop::of_file(name, &file, fault))?;
+        return Ok(told.with("sound", Json::Bool(true)));
     }
-    fields
-}
-
-// ---- the commands
-
-fn check(name: &OsStr) -> Answer {
     let file = glance(name)?;
     tronalhet::read(&file).map_err(|refusal| Stop::of_file(name, &file, refusal.into()))?;
-    Ok(Told { lines: vec!["accepted".into()], fields: vec![("refused", Json::Number(0))] })
+    Ok(told)
 }
 
 fn list(name: &OsStr) -> Answer {
     let file = glance(name)?;
     let record = tronalhet::read(&file).map_err(|refusal| Stop::of_file(name, &file, refusal.into()))?;
-    Ok(Told { lines: listing(&record), fields: fields_of(&record) })
+    Ok(Told { lines: listing(&record), fields: fields_of(&record), ..Told::default() })
 }
 
 /// The lines of a list, in the form that document 01 gives.
@@ -137,74 +88,164 @@ fn fields_of(record: &Record) -> Vec<(&'static str, Json)> {
     ]
 }
 
-fn decode(from: &OsStr, to: &OsStr) -> Answer {
+// ---- what is written
+
+/// A place for a file that is made of another one, which it must not replace; nor any other, unless that is asked for.
+fn place_for(to: &OsStr, from: &OsStr, replace: bool) -> Result<Target, Stop> {
     let target = Target::new(to)?;
     target.is_not(from, "IN")?;
+    if !replace {
+        target.replaces_nothing()?;
+    }
+    Ok(target)
+}
+
+/// Writes a file. What it takes the place of may have other names, and may be kept under a name of its own.
+fn write(target: &Target, to: &OsStr, made: &[u8], backup: bool, told: Told) -> Answer {
+    let others = target.other_names();
+    let kept = target.write(made, backup)?;
+    let mut told = told.with("out", text(to));
+    if let Some(kept) = kept {
+        told = told.with("backup", text(kept.as_os_str()));
+    }
+    if others > 0 {
+        told.remarks.push(format!("{}: its {others} other names (hard links) keep the old file", shown(to)));
+    }
+    Ok(told)
+}
+
+fn decode(from: &OsStr, to: &OsStr, call: &Call) -> Answer {
+    let target = place_for(to, from, call.flag("replace"))?;
     let file = whole(from)?;
     let (made, frames) = tronalhet::sixteen_bit(&file).map_err(|fault| Stop::of_file(from, &file, fault))?;
-    target.write(&made)?;
-    Ok(told(&[("frames", frames.0 as usize), ("bytes", made.len())]))
+    let told = Told::facts(&[("frames", frames.0 as usize), ("bytes", made.len())]);
+    write(&target, to, &made, false, told.without(&[(from, left_out(&file, ALL))]))
 }
 
 fn encode(from: &OsStr, to: &OsStr, call: &Call) -> Answer {
     let align = call.number("align").unwrap_or(USUAL_ALIGN) as u16;
-    let target = Target::new(to)?;
-    target.is_not(from, "IN")?;
+    let target = place_for(to, from, call.flag("replace"))?;
     let file = whole(from)?;
     let copy = tronalhet::approval_copy(&file, align).map_err(|fault| not_copied(from, &file, align, fault))?;
-    target.write(&copy.file)?;
-    Ok(told(&[
+    let told = Told::facts(&[
         ("frames", copy.frames.0 as usize),
         ("bytes", copy.file.len()),
         ("chased_left", copy.left.0 as usize),
         ("chased_right", copy.right.0 as usize),
-    ]))
+    ]);
+    write(&target, to, &copy.file, false, told.without(&[(from, left_out(&file, SOUND))]))
 }
 
-/// Why there is no copy: where the format of a file is taken, 9 is said of the align.
+/// Why there is no copy: where the format of a file is accepted, 9 is said of the align.
 fn not_copied(from: &OsStr, file: &[u8], align: u16, fault: Fault) -> Stop {
     match (fault, tronalhet::read(file)) {
         (Fault::Refused(refusal @ Refusal::FormatWrong), Ok(record)) => {
             let step = 4 * record.format.channels;
-            let what = format!("the align is {align}; {} to 4096 are taken, in steps of {step}", 2 * step);
-            Stop::Refused { refusal, file: shown(from), place: Some(Place { what, ..Place::default() }) }
+            let what = format!("--align is {align}; {} to 4096 are accepted, in steps of {step}", 2 * step);
+            Stop::of_call(from, refusal, what)
         }
         _ => Stop::of_file(from, file, fault),
     }
 }
 
-fn add(name: &str, call: &Call) -> Answer {
-    let (from, with) = (&call.words[0], &call.words[1]);
-    let (number, limit) = (Donation(call.needed("number")), Frames(call.needed("limit")));
-    let target = Target::new(call.out.as_ref().unwrap_or(from))?;
-    target.is_not(with, "SONG")?;
-    let _locked = target.lock_folder(|line| eprint(name, line))?;
-    let (side, song) = (whole(from)?, whole(with)?);
-    let made = tronalhet::add(&side, &song, number, limit).map_err(|fault| match fault {
-        Fault::Refused(refusal) => {
-            let found = of_adding(refusal, &side, &song, number, limit);
-            let file = shown(if matches!(found, Some((Which::Side, _))) { from } else { with });
-            Stop::Refused { refusal, file, place: found.map(|(_, place)| place) }
-        }
-        Fault::NoMemory(lack) => lack.into(),
-    })?;
-    target.write(&made)?;
-    Ok(told(&[("added", number.0 as usize), ("bytes", made.len())]))
-}
-
 fn new_side(name: &str, call: &Call) -> Answer {
-    let (channels, rate) = (call.needed("channels") as u16, call.needed("rate"));
-    let target = Target::new(&call.words[0])?;
+    let (to, channels, rate) = (&call.words[0], call.needed("channels") as u16, call.needed("rate"));
+    let target = Target::new(to)?;
     let made = tronalhet::empty_side(channels, rate).map_err(|fault| match fault {
         Fault::Refused(refusal) => {
-            let what = format!("{channels} channels and a rate of {rate}; 1 or 2 and 1 to 192000 are taken");
-            let place = Some(Place { what, ..Place::default() });
-            Stop::Refused { refusal, file: shown(&call.words[0]), place }
+            let what = format!("--channels is {channels} and --rate {rate}; 1 or 2 and 1 to 192000 are accepted");
+            Stop::of_call(to, refusal, what)
         }
         Fault::NoMemory(lack) => lack.into(),
     })?;
     let _locked = target.lock_folder(|line| eprint(name, line))?;
     target.is_new()?;
-    target.write(&made)?;
-    Ok(told(&[("bytes", made.len())]))
+    write(&target, to, &made, false, Told::facts(&[("bytes", made.len())]))
+}
+
+// ---- a song is added
+
+/// What is added to what.
+struct Adding<'a> {
+    side: &'a OsStr,
+    song: &'a OsStr,
+    number: Donation,
+    limit: Frames,
+}
+
+/// The song is read before others are kept out, and so is a side that is no file: a pipe that nobody writes to
+/// would else keep them out for ever.
+fn add(name: &str, call: &Call) -> Answer {
+    let adding = Adding {
+        side: &call.words[0],
+        song: &call.words[1],
+        number: Donation(call.needed("number")),
+        limit: Frames(call.needed("limit")),
+    };
+    let to = call.out.as_ref().map_or(adding.side, |out| out);
+    place_for_side(to, &adding, call.flag("replace"))?;
+    let song = whole(adding.song)?;
+    let streamed = if is_stream(adding.side) { Some(whole(adding.side)?) } else { None };
+    let locked = Target::new(to)?.lock_folder(|line| eprint(name, line))?;
+    // What stands there may be another file after a wait.
+    let target = place_for_side(to, &adding, call.flag("replace"))?;
+    let side = streamed.map_or_else(|| whole(adding.side), Ok)?;
+    let made = tronalhet::add(&side, &song, adding.number, adding.limit)
+        .map_err(|fault| not_added(&adding, &side, &song, fault))?;
+    let told = added(&adding, &side, &song, &made).map_err(|fault| Stop::of_file(to, &made, fault))?;
+    let answer = write(&target, to, &made, call.flag("backup"), told);
+    drop(locked);
+    answer
+}
+
+/// A place for a new side: that of the old one, if that has no other name, or a new one, unless another file is to be
+/// replaced.
+fn place_for_side(to: &OsStr, adding: &Adding, replace: bool) -> Result<Target, Stop> {
+    let target = Target::new(to)?;
+    target.is_not(adding.song, "SONG")?;
+    if !replace {
+        if !target.is_file(adding.side) {
+            target.replaces_nothing()?;
+        }
+        target.has_one_name()?;
+    }
+    Ok(target)
+}
+
+fn not_added(adding: &Adding, side: &[u8], song: &[u8], fault: Fault) -> Stop {
+    let refusal = match fault {
+        Fault::Refused(refusal) => refusal,
+        Fault::NoMemory(lack) => return lack.into(),
+    };
+    let found = of_adding(refusal, side, song, adding.number, adding.limit);
+    let name = match found {
+        Some((Which::Side, _)) => adding.side,
+        _ => adding.song,
+    };
+    let way_out = way_out_of_adding(refusal, side, song, adding.song, adding.limit);
+    Stop::Refused { refusal, file: name.into(), place: found.map(|(_, place)| place), way_out }
+}
+
+/// What is reported of a song that was added: which song it is, where it starts, and how much of the limit is left. Its
+/// sound may be on the side already under another number, which is allowed, and is seldom meant.
+fn added(adding: &Adding, side: &[u8], song: &[u8], made: &[u8]) -> Result<Told, Fault> {
+    let (before, after) = (tronalhet::read(side)?, tronalhet::read(made)?);
+    let told = Told::facts(&[
+        ("added", adding.number.0 as usize),
+        ("bytes", made.len()),
+        ("song", after.cues.len()),
+        ("place", before.frames.0 as usize),
+        ("frames", (after.frames.0 - before.frames.0) as usize),
+        ("frames_left", (adding.limit.0 - after.frames.0) as usize),
+    ]);
+    let mut told = told.without(&[(adding.side, left_out(side, ALL)), (adding.song, left_out(song, SOUND))]);
+    let same = tronalhet::same_sound(side, song)?;
+    if !same.is_empty() {
+        let numbers: Vec<String> = same.iter().map(|number| number.0.to_string()).collect();
+        let line = format!("{}: this sound is on the side already, as {}", shown(adding.song), numbers.join(", "));
+        told.remarks.push(line);
+        let numbers = same.iter().map(|number| Json::Number(number.0.into())).collect();
+        told = told.with("same_sound_as", Json::List(numbers));
+    }
+    Ok(told)
 }

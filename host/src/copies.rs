@@ -1,4 +1,4 @@
-//! Whole files made of whole files: the sound as a 16-bit WAVE file, the approval copy, the empty side.
+//! Whole files made of whole files: the sound as a 16-bit WAVE file, and the approval copy.
 //!
 //! A file is first written around a silence, and the sound is then made in its place: so there is never more in memory
 //! than the file that is read and the one that is written. The silence takes no memory, as it is only read.
@@ -70,9 +70,4 @@ fn encode_sound(file: &[u8], record: &Record, align: u16, out: &mut [u8]) -> Res
         _ => encode_into(&decode(file)?, channels, align, out)?,
     };
     Ok((left, right))
-}
-
-/// A side without songs.
-pub fn empty_side(channels: u16, rate: u32) -> Result<Room<u8>, Fault> {
-    write(&Record { format: Format::sixteen_bit(channels, rate), ..Record::default() }, &[])
 }

@@ -2,6 +2,7 @@
 use std::io::Write;
 use std::process::ExitCode;
 
+mod answer;
 mod call;
 mod commands;
 mod pages;
@@ -19,6 +20,11 @@ const USAGE: u8 = 64;
 const TROUBLE: u8 = 74;
 
 fn main() -> ExitCode {
+    system::size_limit_is_an_error();
+    if system::output_is_closed() {
+        eprint(NAME, "standard output is closed; nothing was done");
+        return ExitCode::from(TROUBLE);
+    }
     let status = match call::asked(std::env::args_os().skip(1).collect()) {
         Ok(call::Asked::Text(text)) => shown::print(NAME, &text),
         Ok(call::Asked::Run(call)) => commands::run(NAME, &call),

@@ -161,6 +161,19 @@ pub fn encode(sound: &[i16], channels: u16, align: u16) -> Result<Coded, Fault> 
     Ok(Coded { blocks, left, right })
 }
 
+/// How many bytes an empty side has.
+const EMPTY_BYTES: usize = 44;
+
+/// A side without songs.
+pub fn empty_side(channels: u16, rate: u32) -> Result<Room<u8>, Fault> {
+    let mut out = Room::new(EMPTY_BYTES)?;
+    // SAFETY: `out` is a slice with its length, and is borrowed by nobody else.
+    let answer = unsafe { boundary::tronalhet_empty(channels, rate, out.as_mut_ptr(), out.len()) };
+    judged(answer.refusal)?;
+    out.shorten(answer.n);
+    Ok(out)
+}
+
 /// A side with one song more, which may then have so many frames as `limit` says.
 pub fn add(side: &[u8], song: &[u8], number: Donation, limit: Frames) -> Result<Room<u8>, Fault> {
     // The first song of a side brings two tables, 60 bytes with its entries; its file has 44 beside the sound.

@@ -1,9 +1,9 @@
-//! Encoding a sound that is decoded part by part, so that it is never in memory as a whole.
+//! Decoding a sound part by part, so that it is never in memory as a whole: to test its blocks, or to encode it.
 //!
 //! From block to block a channel takes nothing along but its index. So a part is encoded behind a block of our own,
 //! the lead-in, which leaves the index where the part before left it and is then dropped: the blocks are those of the
 //! whole sound.
-use crate::operations::{coded_bytes, decode, encode, samples_per_block, write, Fault};
+use crate::operations::{coded_bytes, decode, encode, read, samples_per_block, sound_of, write, Fault};
 use crate::record::{Format, Record};
 use crate::room::Room;
 use crate::units::Frames;
@@ -15,14 +15,29 @@ const PART: usize = 1 << 18;
 /// The fewest samples of a block that can be a lead-in to every index.
 pub const SHORTEST_LEAD_IN: u16 = 20;
 
+/// The blocks of a sound in parts of about as many frames; how many blocks there are in all.
+fn parts(format: &Format, sound: &[u8]) -> (usize, impl Iterator<Item = Range<usize>>) {
+    let all = sound.len() / usize::from(format.align);
+    let each = (PART / usize::from(format.samples)).max(1);
+    (all, (0..all).step_by(each).map(move |start| start..all.min(start + each)))
+}
+
+/// Whether the sound of a file can be decoded: beside what reading asks of it, the headers of its ADPCM blocks.
+pub fn check_sound(file: &[u8]) -> Result<(), Fault> {
+    let (record, sound) = (read(file)?, sound_of(file)?);
+    if record.format.tag == Format::PCM {
+        return Ok(());
+    }
+    let (_, mut parts) = parts(&record.format, sound);
+    parts.try_for_each(|blocks| decoded(&record, sound, blocks).map(drop))
+}
+
 /// Encodes the sound of a file to blocks of `align` bytes; the chased samples of each channel.
 pub fn encode_parts(record: &Record, sound: &[u8], align: u16, out: &mut [u8]) -> Result<(Frames, Frames), Fault> {
     let mut coder = Coder::new(record.format.channels, align);
-    let all = sound.len() / usize::from(record.format.align);
-    let each = (PART / usize::from(record.format.samples)).max(1);
+    let (all, parts) = parts(&record.format, sound);
     let (mut waiting, mut done): (Vec<i16>, usize) = (vec![], 0);
-    for start in (0..all).step_by(each) {
-        let blocks = start..all.min(start + each);
+    for blocks in parts {
         let last = blocks.end == all;
         waiting.extend_from_slice(&decoded(record, sound, blocks)?);
         let ready = if last { waiting.len() } else { waiting.len() / coder.block() * coder.block() };

@@ -14,12 +14,14 @@ mod chunks;
 mod ending;
 mod format;
 mod kinds;
+mod left_out;
 mod lines;
 mod tables;
 mod way_out;
 
 pub use adding::{of_adding, way_out_of_adding, Which};
 pub use chunks::Code;
+pub use left_out::left_out;
 pub use way_out::way_out;
 
 /// A block of packed sound, counted from 1, and how many there are.

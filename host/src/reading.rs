@@ -1,9 +1,10 @@
 //! Files are read whole, or as much of them as a record is read from.
 use crate::stop::{shown, Stop};
+use crate::system::input_is_closed;
 use std::ffi::OsStr;
 use std::fs::{self, File, Metadata};
 use std::io::{self, ErrorKind, Read, Seek};
-use std::os::unix::fs::FileExt;
+use std::os::unix::fs::{FileExt, MetadataExt};
 use std::os::unix::io::AsFd;
 use tronalhet::places::of_length;
 use tronalhet::{Refusal, Room, MOST_BYTES};
@@ -17,19 +18,27 @@ const LOOKED_AT: usize = 4096;
 /// How much is read on where chunks are so short that one follows in what was read.
 const AHEAD: usize = 1 << 16;
 
-/// A file that is open: where reading starts, and how many bytes there are from there on, if that is known.
+/// What the system says of a file that is not open.
+const NOT_OPEN: i32 = 9;
+
+/// A file that is open: where reading starts, how many bytes there are from there on, if that is known, and what the
+/// system says of it before it is read.
 struct Opened {
     file: File,
     start: u64,
     size: Option<usize>,
+    before: Metadata,
 }
 
 /// A file, or standard input, to be read.
 fn named(name: &OsStr) -> io::Result<File> {
-    if name == "-" {
-        return io::stdin().as_fd().try_clone_to_owned().map(File::from);
+    if name != "-" {
+        return File::open(name);
     }
-    File::open(name)
+    if input_is_closed() {
+        return Err(io::Error::from_raw_os_error(NOT_OPEN));
+    }
+    io::stdin().as_fd().try_clone_to_owned().map(File::from)
 }
 
 /// Which file is read. It is not opened by its name, as a named pipe would wait for its other end.
@@ -44,20 +53,47 @@ pub fn about(name: &OsStr) -> io::Result<Metadata> {
 fn open(name: &OsStr) -> Result<Opened, Stop> {
     let not_read = |error| Stop::not_read(name, &error);
     let mut file = named(name).map_err(not_read)?;
-    let about = file.metadata().map_err(not_read)?;
-    if !about.is_file() {
-        return Ok(Opened { file, start: 0, size: None });
+    let before = file.metadata().map_err(not_read)?;
+    if !before.is_file() {
+        return Ok(Opened { file, start: 0, size: None, before });
     }
     let start = file.stream_position().map_err(not_read)?;
-    let size = about.len().saturating_sub(start);
+    let size = before.len().saturating_sub(start);
     if size > MOST_BYTES as u64 {
         return Err(too_long(name, size));
     }
-    Ok(Opened { file, start, size: Some(size as usize) })
+    Ok(Opened { file, start, size: Some(size as usize), before })
 }
 
 fn too_long(name: &OsStr, size: u64) -> Stop {
-    Stop::Refused { refusal: Refusal::LengthOutOfRange, file: shown(name), place: of_length(size) }
+    let refusal = Refusal::LengthOutOfRange;
+    Stop::Refused { refusal, file: name.into(), place: of_length(size), way_out: None }
+}
+
+/// Whether a name, or standard input, is something else than a file, as a pipe: then it may be long until all is read,
+/// and nothing that is written can be in its place.
+pub fn is_stream(name: &OsStr) -> bool {
+    about(name).map_or(false, |about| !about.is_file())
+}
+
+impl Opened {
+    /// What was read must be one state of the file.
+    fn unchanged(&self, name: &OsStr) -> Result<(), Stop> {
+        let after = self.file.metadata().map_err(|error| Stop::not_read(name, &error))?;
+        if self.size.is_some() && has_changed(&self.before, &after) {
+            return Err(Stop::Trouble(format!("cannot read {}: it changed while it was read", shown(name))));
+        }
+        Ok(())
+    }
+}
+
+/// Whether a file was written to: by its length and the time of that. A program may set that time back, but not the one
+/// of the last change of any kind; which also changes where a name of the file comes or goes, as where a side is
+/// replaced while its old file is still read.
+fn has_changed(before: &Metadata, after: &Metadata) -> bool {
+    let written = |about: &Metadata| (about.len(), about.mtime(), about.mtime_nsec());
+    let changed = |about: &Metadata| (about.ctime(), about.ctime_nsec());
+    written(before) != written(after) || (changed(before) != changed(after) && before.nlink() == after.nlink())
 }
 
 /// All bytes of a file.
@@ -72,9 +108,7 @@ fn all_of(name: &OsStr, mut opened: Opened) -> Result<Room<u8>, Stop> {
     if size > MOST_BYTES {
         return Err(too_long(name, size as u64));
     }
-    if opened.size.map_or(false, |known| known < size) {
-        return Err(Stop::Trouble(format!("cannot read {}: it grew while it was read", shown(name))));
-    }
+    opened.unchanged(name)?;
     room.shorten(size);
     Ok(room)
 }
@@ -97,13 +131,17 @@ fn fill(file: &mut File, room: &mut [u8]) -> io::Result<usize> {
 pub fn glance(name: &OsStr) -> Result<Room<u8>, Stop> {
     let opened = open(name)?;
     match opened.size {
-        Some(size) if size > SHORT => {
-            let mut room = Room::sparse(size)?;
-            heads(&opened.file, opened.start, &mut room).map_err(|error| Stop::not_read(name, &error))?;
-            Ok(room)
-        }
+        Some(size) if size > SHORT => heads_of(name, &opened, size),
         _ => all_of(name, opened),
     }
+}
+
+/// A room as long as the file, which is zero but for what its record is read from.
+fn heads_of(name: &OsStr, opened: &Opened, size: usize) -> Result<Room<u8>, Stop> {
+    let mut room = Room::sparse(size)?;
+    heads(&opened.file, opened.start, &mut room).map_err(|error| Stop::not_read(name, &error))?;
+    opened.unchanged(name)?;
+    Ok(room)
 }
 
 /// Reads the head of a file and the start of each chunk to where they stand. Reading goes from chunk to chunk and looks
@@ -169,6 +207,28 @@ mod tests {
         assert!(zero(LOOKED_AT + AHEAD, 200_020));
         assert_eq!(room[200_020..200_044 + LOOKED_AT], file[200_020..200_044 + LOOKED_AT]);
         assert!(zero(200_020 + LOOKED_AT + AHEAD, file.len()));
+    }
+
+    #[test]
+    fn a_file_that_changes_while_it_is_read_is_seen() {
+        let path = std::env::temp_dir().join(format!("tronalhet-changed-{}", std::process::id()));
+        let (name, long) = (path.as_os_str(), vec![7; SHORT + 1]);
+        type Change = fn(&std::path::Path);
+        let changes: [(Change, bool); 4] = [
+            (|_| {}, true),
+            (|path| File::options().append(true).open(path).unwrap().write_all(b"more").unwrap(), false),
+            (|path| File::options().write(true).open(path).unwrap().write_all(b"other").unwrap(), false),
+            (|path| fs::remove_file(path).unwrap(), true),
+        ];
+        for (change, fine) in changes {
+            fs::write(&path, &long).unwrap();
+            // The system's clock goes in steps, so a change at once might have the same time.
+            std::thread::sleep(std::time::Duration::from_millis(30));
+            let opened = [open(name), open(name)].map(|opened| opened.ok().unwrap());
+            change(&path);
+            let [whole, glanced] = opened;
+            assert_eq!((all_of(name, whole).is_ok(), heads_of(name, &glanced, long.len()).is_ok()), (fine, fine));
+        }
     }
 
     #[test]

@@ -1,10 +1,11 @@
 //! What the command prints: lines for people, JSON for scripts.
 use crate::{eprint, TROUBLE};
 use std::fmt;
-use std::io::Write;
+use std::io::{ErrorKind, Write};
 
 /// A value of JSON.
 pub enum Json {
+    Bool(bool),
     Number(u64),
     Text(String),
     List(Vec<Json>),
@@ -14,6 +15,7 @@ pub enum Json {
 impl fmt::Display for Json {
     fn fmt(&self, out: &mut fmt::Formatter) -> fmt::Result {
         match self {
+            Json::Bool(value) => write!(out, "{value}"),
             Json::Number(number) => write!(out, "{number}"),
             Json::Text(text) => quoted(out, text),
             Json::List(list) => {
@@ -46,14 +48,18 @@ fn quoted(out: &mut fmt::Formatter, text: &str) -> fmt::Result {
     out.write_str("\"")
 }
 
-/// Prints to standard output, all at once. What is done is done: where it cannot be shown, standard error says it.
+/// Prints to standard output, all at once. What is done is done: where it cannot be shown, standard error says it. Who
+/// closes a pipe wants no more, so that is no error.
 pub fn print(name: &str, text: &str) -> u8 {
     let mut out = std::io::stdout().lock();
-    if out.write_all(text.as_bytes()).and_then(|()| out.flush()).is_ok() {
-        return 0;
+    match out.write_all(text.as_bytes()).and_then(|()| out.flush()) {
+        Ok(()) => 0,
+        Err(error) if error.kind() == ErrorKind::BrokenPipe => 0,
+        Err(_) => {
+            eprint(name, &format!("cannot write to standard output: {}", text.lines().next().unwrap_or_default()));
+            TROUBLE
+        }
     }
-    eprint(name, &format!("cannot write to standard output: {}", text.lines().next().unwrap_or_default()));
-    TROUBLE
 }
 
 #[cfg(test)]
@@ -63,8 +69,7 @@ mod tests {
     #[test]
     fn json_is_escaped_and_nested() {
         let text = Json::Text("a \"b\" \\ \n é".into());
-        let object =
-            Json::Object(vec![("list", Json::List(vec![Json::Number(1), text])), ("none", Json::List(vec![]))]);
-        assert_eq!(object.to_string(), r#"{"list": [1, "a \"b\" \\ \u000a é"], "none": []}"#);
+        let object = Json::Object(vec![("list", Json::List(vec![Json::Number(1), text])), ("ok", Json::Bool(true))]);
+        assert_eq!(object.to_string(), r#"{"list": [1, "a \"b\" \\ \u000a é"], "ok": true}"#);
     }
 }

@@ -1,12 +1,13 @@
-//! Why a command stops: a refusal of the library with its place, or trouble with files.
-use std::ffi::OsStr;
+//! Why a command stops: a refusal of the library with its place, or an I/O error. And how names are shown.
+use std::ffi::{OsStr, OsString};
 use std::io;
+use std::os::unix::ffi::OsStrExt;
 use std::path::Path;
-use tronalhet::places::{of_file, Place};
+use tronalhet::places::{of_file, way_out, Place};
 use tronalhet::{Fault, NoMemory, Refusal};
 
 pub enum Stop {
-    Refused { refusal: Refusal, file: String, place: Option<Place> },
+    Refused { refusal: Refusal, file: OsString, place: Option<Place>, way_out: Option<String> },
     Trouble(String),
 }
 
@@ -16,15 +17,31 @@ impl Stop {
     }
 
     pub fn not_written(path: &Path, error: &io::Error) -> Stop {
-        Stop::Trouble(format!("cannot write {}: {}", path.display(), reason(error)))
+        Stop::no_place(path, &reason(error))
+    }
+
+    /// A place where nothing is written.
+    pub fn no_place(path: &Path, why: &str) -> Stop {
+        Stop::Trouble(format!("cannot write {}: {why}", shown(path.as_os_str())))
     }
 
     /// A file that was refused, or for which there was no memory.
     pub fn of_file(name: &OsStr, file: &[u8], fault: Fault) -> Stop {
         match fault {
-            Fault::Refused(refusal) => Stop::Refused { refusal, file: shown(name), place: of_file(refusal, file) },
+            Fault::Refused(refusal) => Stop::Refused {
+                refusal,
+                file: name.into(),
+                place: of_file(refusal, file),
+                way_out: way_out(refusal, file, name, None),
+            },
             Fault::NoMemory(lack) => lack.into(),
         }
+    }
+
+    /// What a call asks for cannot be; the file is the one that it was asked of.
+    pub fn of_call(name: &OsStr, refusal: Refusal, what: String) -> Stop {
+        let place = Some(Place { what, ..Place::default() });
+        Stop::Refused { refusal, file: name.into(), place, way_out: None }
     }
 }
 
@@ -34,16 +51,54 @@ impl From<NoMemory> for Stop {
     }
 }
 
-/// A file's name, to be shown.
+/// A file's name as people see it. What would end the line, move the cursor or turn the direction of writing is
+/// escaped, so that no name can be read as another line.
 pub fn shown(name: &OsStr) -> String {
     if name == "-" {
         return "standard input".into();
     }
-    name.to_string_lossy().into_owned()
+    let (mut text, mut rest) = (String::new(), name.as_bytes());
+    while !rest.is_empty() {
+        let valid = match std::str::from_utf8(rest) {
+            Ok(_) => rest.len(),
+            Err(error) => error.valid_up_to(),
+        };
+        let (front, behind) = rest.split_at(valid);
+        String::from_utf8_lossy(front).chars().for_each(|letter| put_letter(&mut text, letter));
+        rest = behind;
+        if let Some((byte, more)) = rest.split_first() {
+            text.push_str(&format!("\\x{byte:02x}"));
+            rest = more;
+        }
+    }
+    text
+}
+
+fn put_letter(text: &mut String, letter: char) {
+    let turns = matches!(letter, '\u{2028}'..='\u{202e}' | '\u{2066}'..='\u{2069}' | '\u{200e}' | '\u{200f}');
+    if letter.is_control() || turns {
+        text.extend(letter.escape_default());
+    } else {
+        text.push(letter);
+    }
 }
 
 /// What the system says of an error, without its number.
 fn reason(error: &io::Error) -> String {
     let said = error.to_string();
     said.split(" (os error").next().unwrap_or_default().into()
+}
+
+#[cfg(test)]
+mod tests {
+    use super::*;
+
+    #[test]
+    fn names_stay_on_their_line() {
+        let named = |bytes: &[u8]| shown(OsStr::from_bytes(bytes));
+        assert_eq!(named(b"a\nrefused 1\r\x1b[2K.wav"), "a\\nrefused 1\\r\\u{1b}[2K.wav");
+        assert_eq!(named("é\u{202e}\u{85}\u{7f}".as_bytes()), "é\\u{202e}\\u{85}\\u{7f}");
+        assert_eq!(named(b"\xff\xfe song\xc3"), "\\xff\\xfe song\\xc3");
+        assert_eq!((named(b"-"), named(b"a\\b 'c'")), ("standard input".into(), "a\\b 'c'".into()));
+    }
 }

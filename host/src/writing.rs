@@ -2,16 +2,19 @@
 //! happens before, an old file of that name stays whole, and no part of the new one has it.
 use crate::reading::about;
 use crate::stop::{shown, Stop};
-use crate::system::{keep_owner, lock, remove_on_signal};
+use crate::system::{keep_owner, lock, remove_on_signal, rename_to_free, usual_mode};
 use std::ffi::OsStr;
-use std::fs::{self, File, Metadata, OpenOptions};
+use std::fs::{self, File, Metadata, OpenOptions, Permissions};
 use std::io::{self, ErrorKind, Write};
-use std::os::unix::fs::{MetadataExt, OpenOptionsExt};
+use std::os::unix::fs::{MetadataExt, OpenOptionsExt, PermissionsExt};
 use std::path::{Path, PathBuf};
 
 /// The names of unfinished files.
 const BEGINS: &str = ".tronalhet-";
 const ENDS: &str = ".part";
+
+/// Who may read and write an unfinished file: its owner alone.
+const PRIVATE: u32 = 0o600;
 
 /// Open no link, and do not wait for the other end of a named pipe; as Linux on x86-64 has them.
 const NO_FOLLOW: i32 = 0o400_000;
@@ -39,7 +42,7 @@ impl Target {
         };
         if let Some(old) = &old {
             if !old.is_file() {
-                return Err(Stop::Trouble(format!("cannot write {}: it is there, and is no file", shown(name))));
+                return Err(Stop::no_place(Path::new(name), "it is there, and is no file"));
             }
             // The new file would take the place of one that may not be written.
             OpenOptions::new().write(true).open(&path).map_err(not_written)?;
@@ -49,21 +52,54 @@ impl Target {
 
     /// Refuses a place that is the file that is read: a sound that was donated is not to be lost to a copy of it.
     pub fn is_not(&self, read: &OsStr, role: &str) -> Result<(), Stop> {
-        match (&self.old, about(read)) {
-            (Some(old), Ok(about)) if is_same(old, &about) => {
-                let (new, old) = (self.path.display(), shown(read));
-                Err(Stop::Trouble(format!("OUT would replace {role}: {new} and {old} are the same file")))
-            }
-            _ => Ok(()),
+        if !self.is_file(read) {
+            return Ok(());
         }
+        let (new, old) = (shown(self.path.as_os_str()), shown(read));
+        Err(Stop::Trouble(format!("OUT would replace {role}: {new} and {old} are the same file")))
+    }
+
+    /// Whether the file of a name, or standard input, is the one that is replaced.
+    pub fn is_file(&self, read: &OsStr) -> bool {
+        matches!((&self.old, about(read)), (Some(old), Ok(about)) if is_same(old, &about))
     }
 
     /// Refuses a place where there is anything.
     pub fn is_new(&self) -> Result<(), Stop> {
         match fs::symlink_metadata(&self.path) {
-            Ok(_) => Err(Stop::Trouble(format!("cannot write {}: it is there already", self.path.display()))),
+            Ok(_) => Err(Stop::no_place(&self.path, "it is there already")),
             Err(_) => Ok(()),
         }
+    }
+
+    /// Refuses to replace a file of other content.
+    pub fn replaces_nothing(&self) -> Result<(), Stop> {
+        match &self.old {
+            Some(_) => Err(Stop::no_place(&self.path, "it is there already; --replace would replace it")),
+            None => Ok(()),
+        }
+    }
+
+    /// Refuses to replace a file that has other names, under which the old one would stay.
+    pub fn has_one_name(&self) -> Result<(), Stop> {
+        match self.other_names() {
+            0 => Ok(()),
+            more => {
+                let why = format!("it has {more} more names (hard links), which would keep the old file");
+                Err(Stop::no_place(&self.path, &format!("{why}; --replace replaces this one")))
+            }
+        }
+    }
+
+    /// How many other names the file has that is replaced. Those that are backups of it are meant to keep it.
+    pub fn other_names(&self) -> u64 {
+        let old = match &self.old {
+            Some(old) => old,
+            None => return 0,
+        };
+        let names = (1..).map(|number| fs::symlink_metadata(numbered(&self.path, number)));
+        let backups = names.take_while(Result::is_ok).flatten().filter(|about| is_same(about, old)).count();
+        old.nlink().saturating_sub(1 + backups as u64)
     }
 
     /// Keeps other runs out of the folder that change a side there, and waits for one that does. The lock is on the
@@ -72,17 +108,28 @@ impl Target {
         let not_locked = |error: io::Error| Stop::not_written(&self.path, &error);
         let folder = File::open(&self.folder).map_err(not_locked)?;
         if !lock(&folder, false).map_err(not_locked)? {
-            waiting(&format!("waiting for another add in {}", self.folder.join("").display()));
+            waiting(&format!("waiting for another add in {}", shown(self.folder.join("").as_os_str())));
             lock(&folder, true).map_err(not_locked)?;
         }
         Ok(folder)
     }
 
-    /// Writes the file.
-    pub fn write(&self, bytes: &[u8]) -> Result<(), Stop> {
+    /// Writes the file. Where a backup is wanted the file that is replaced keeps a name, which is given back.
+    pub fn write(&self, bytes: &[u8], backup: bool) -> Result<Option<PathBuf>, Stop> {
         sweep(&self.folder);
-        let made = Unfinished::new(&self.folder).and_then(|file| file.finish(self, bytes));
+        let made = Unfinished::new(&self.folder).and_then(|file| file.finish(self, bytes, backup));
         made.map_err(|error| Stop::not_written(&self.path, &error))
+    }
+
+    /// Gives a finished file its name. One that has appeared there meanwhile, or has changed, is not replaced.
+    fn name(&self, finished: &Path) -> io::Result<()> {
+        match (&self.old, fs::metadata(&self.path)) {
+            (None, _) => rename_to_free(finished, &self.path),
+            (Some(old), Ok(there)) if is_same(old, &there) && is_untouched(old, &there) => {
+                fs::rename(finished, &self.path)
+            }
+            _ => Err(io::Error::new(ErrorKind::Other, "it changed while the new file was made")),
+        }
     }
 }
 
@@ -98,6 +145,46 @@ fn followed(name: &Path) -> io::Result<PathBuf> {
     Err(io::Error::new(ErrorKind::Other, "it is a link that leads nowhere"))
 }
 
+// ---- backups
+
+/// The name of a backup.
+fn numbered(path: &Path, number: u32) -> PathBuf {
+    let mut name = path.as_os_str().to_os_string();
+    name.push(format!(".{number}"));
+    name.into()
+}
+
+/// Keeps the file of a path under the first of its backups' names that is free, and gives back that name. It is a
+/// second name of the file, so that nothing is copied; where there can be none, it is a copy.
+fn kept(path: &Path, folder: &Path) -> io::Result<PathBuf> {
+    for number in 1..=u32::MAX {
+        let name = numbered(path, number);
+        let named = fs::hard_link(path, &name).or_else(|error| match error.kind() {
+            ErrorKind::AlreadyExists => Err(error),
+            _ => copied(path, folder, &name),
+        });
+        match named {
+            Ok(()) => return Ok(name),
+            Err(error) if error.kind() != ErrorKind::AlreadyExists => return Err(error),
+            // A run that was cut off has kept this very file already.
+            Err(_) if are_same(path, &name) => return Ok(name),
+            Err(_) => {}
+        }
+    }
+    Err(ErrorKind::AlreadyExists.into())
+}
+
+/// A copy of a file under a name that must be free.
+fn copied(path: &Path, folder: &Path, name: &Path) -> io::Result<()> {
+    let mut old = File::open(path)?;
+    let mut copy = Unfinished::new(folder)?;
+    io::copy(&mut old, &mut copy.file)?;
+    copy.finished(Some(&old.metadata()?))?;
+    rename_to_free(&copy.path, name)
+}
+
+// ---- unfinished files
+
 /// A file that is being written. It is locked, so that other runs see that somebody is at it.
 struct Unfinished {
     file: File,
@@ -108,7 +195,7 @@ impl Unfinished {
     fn new(folder: &Path) -> io::Result<Unfinished> {
         for number in 0.. {
             let path = folder.join(format!("{BEGINS}{}-{number}{ENDS}", std::process::id()));
-            let file = match OpenOptions::new().write(true).create_new(true).open(&path) {
+            let file = match OpenOptions::new().write(true).create_new(true).mode(PRIVATE).open(&path) {
                 Err(error) if error.kind() == ErrorKind::AlreadyExists => continue,
                 file => file?,
             };
@@ -124,16 +211,32 @@ impl Unfinished {
 
     /// Puts the bytes, flushes them to the disk and gives the file its name. The name is flushed too where that is
     /// possible; until then a machine that loses its power has the old file, whole.
-    fn finish(mut self, target: &Target, bytes: &[u8]) -> io::Result<()> {
+    fn finish(mut self, target: &Target, bytes: &[u8], backup: bool) -> io::Result<Option<PathBuf>> {
         self.file.write_all(bytes)?;
-        if let Some(old) = &target.old {
-            keep_owner(&self.file, old.uid(), old.gid());
-            self.file.set_permissions(old.permissions())?;
-        }
-        self.file.sync_all()?;
-        fs::rename(&self.path, &target.path)?;
+        self.finished(target.old.as_ref())?;
+        let backup = match &target.old {
+            Some(_) if backup => Some(kept(&target.path, &target.folder)?),
+            _ => None,
+        };
+        target.name(&self.path).map_err(|error| {
+            // Nothing was replaced, so there is nothing to keep a second time.
+            let _ = backup.iter().filter(|name| are_same(&target.path, name)).try_for_each(fs::remove_file);
+            error
+        })?;
         let _ = File::open(&target.folder).and_then(|folder| folder.sync_all());
-        Ok(())
+        Ok(backup)
+    }
+
+    /// All is written: who may read it is as with the old file, or as usual, and it is on the disk.
+    fn finished(&self, old: Option<&Metadata>) -> io::Result<()> {
+        match old {
+            Some(old) => {
+                keep_owner(&self.file, old.uid(), old.gid());
+                self.file.set_permissions(old.permissions())?;
+            }
+            None => self.file.set_permissions(Permissions::from_mode(usual_mode()))?,
+        }
+        self.file.sync_all()
     }
 }
 
@@ -148,6 +251,17 @@ fn is_same(one: &Metadata, other: &Metadata) -> bool {
     (one.dev(), one.ino()) == (other.dev(), other.ino())
 }
 
+/// Whether two names are of one file.
+fn are_same(one: &Path, other: &Path) -> bool {
+    matches!((fs::symlink_metadata(one), fs::symlink_metadata(other)), (Ok(one), Ok(other)) if is_same(&one, &other))
+}
+
+/// Whether a file has the length and was last written at the time that it had before.
+fn is_untouched(before: &Metadata, after: &Metadata) -> bool {
+    let written = |about: &Metadata| (about.len(), about.mtime(), about.mtime_nsec());
+    written(before) == written(after)
+}
+
 /// Whether an open file is the one that has a name.
 fn is_there(file: &File, path: &Path) -> bool {
     match (file.metadata(), fs::symlink_metadata(path)) {
@@ -157,7 +271,7 @@ fn is_there(file: &File, path: &Path) -> bool {
 }
 
 /// Removes what runs that were killed have left in a folder: unfinished files that nobody has locked. That some
-/// cannot be looked at is no trouble.
+/// cannot be looked at is no fault.
 fn sweep(folder: &Path) {
     for entry in fs::read_dir(folder).into_iter().flatten().flatten() {
         let name = entry.file_name();
@@ -175,5 +289,26 @@ fn remove_unlocked(path: &Path) {
         if lock(&file, false).unwrap_or(false) {
             let _ = fs::remove_file(path);
         }
+    }
+}
+
+#[cfg(test)]
+mod tests {
+    use super::*;
+
+    #[test]
+    fn a_copy_is_kept_where_a_file_can_have_no_second_name() {
+        let folder = std::env::temp_dir().join(format!("tronalhet-copies-{}", std::process::id()));
+        fs::create_dir(&folder).unwrap();
+        let (side, copy) = (folder.join("side.wav"), folder.join("side.wav.1"));
+        fs::write(&side, b"a side").unwrap();
+        fs::set_permissions(&side, Permissions::from_mode(0o640)).unwrap();
+        copied(&side, &folder, &copy).unwrap();
+        assert_eq!(fs::read(&copy).unwrap(), b"a side");
+        assert_eq!(fs::metadata(&copy).unwrap().mode() & 0o777, 0o640);
+        assert!(!are_same(&side, &copy));
+        assert_eq!(copied(&side, &folder, &copy).unwrap_err().kind(), ErrorKind::AlreadyExists);
+        assert_eq!(fs::read_dir(&folder).unwrap().count(), 2);
+        fs::remove_dir_all(folder).unwrap();
     }
 }

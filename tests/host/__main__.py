@@ -15,18 +15,21 @@ from host.faults import block_places, other_refusals, placed, wrong_files, wrong
 from host.files import checked, glanced, on_files, on_kept_sides, records
 from host.full_size import full_size
 from host.run import PROGRAM, attempted
-from host.together import elsewhere, many_decodes, ten_adds, ten_sides, two_adds, waits
+from host.slips import (backups, closed_pipes, closed_streams, kept_twice, links_of_backups, names_on_one_line,
+                        not_replaced, other_sounds, several_names)
+from host.together import elsewhere, many_decodes, stuck_songs, ten_adds, ten_sides, waits
 from host.trouble import (devices, hidden_folder, links, modes, new_names, no_memory, not_allowed, not_read, not_shown,
                           not_written, same_file, shared, special_files)
 from host.trying import expect, report
 from host.wave import built_again, by_wave, demonstration, readme, wave_refuses
-from host.writing import flushed, full_disk, killed_in_write, living_parts, no_parts, really_full_disk
+from host.writing import flushed, full_disk, past_a_limit, living_parts, no_parts, really_full_disk
 
 PARTS = (on_files, on_kept_sides, records, checked, glanced, placed, block_places, wrong_files, wrong_songs,
          other_refusals, names, for_scripts, from_input, slow_input, called_wrongly, no_numbers, called, helps,
          not_read, not_written, special_files, same_file, links, new_names, modes, not_allowed, shared, devices,
-         hidden_folder, not_shown, no_memory, full_disk, really_full_disk, killed_in_write, living_parts, no_parts,
-         flushed, two_adds, waits, elsewhere, ten_adds, ten_sides, many_decodes,
+         hidden_folder, not_shown, no_memory, full_disk, really_full_disk, past_a_limit, living_parts, no_parts,
+         flushed, not_replaced, other_sounds, backups, kept_twice, links_of_backups, several_names, closed_streams,
+         closed_pipes, names_on_one_line, stuck_songs, waits, elsewhere, ten_adds, ten_sides, many_decodes,
          by_wave, wave_refuses, demonstration, built_again, readme, full_size)
 
 

@@ -5,7 +5,7 @@ import tempfile
 import time
 
 from host.places import record_of, with_junk
-from host.run import ADDED, ADDED_SONG, DECODED, FILES, HOST, NEW, does, tells
+from host.run import ADDED, ADDED_SONG, DECODED, FILES, HOST, KNOWN, NEW, OF_SOUND, added, does, left_out, tells
 from host.trying import EMPTY, SONG, expect, holding, printed, start, tried
 from second import command as second_command, reader as second_reader
 from second.command import answer
@@ -25,10 +25,10 @@ def names():
               lambda *told: [(one['file'], one['refused']) for one in told])
         tells(f'add to {shown!a}', ['add', *ADDED, '--', word, 'file.wav'], files, (1, (shown, 'file.wav')),
               lambda one: (one['file'], one['where']['file']))
-        tells(f'decode to {shown!a}', ['decode', '--', 'song.wav', word], FILES, (0, 'song.wav'),
-              lambda one: one['file'], {word: DECODED[1]})
+        tells(f'decode to {shown!a}', ['decode', '--', 'song.wav', word], FILES, (0, ('song.wav', shown)),
+              lambda one: (one['file'], one['out']), {word: DECODED[1]})
         for words in (['list', '--', word], ['decode', '--', word, 'new'], ['decode', '--', 'song.wav', f'{word}/x']):
-            tells(f'no {shown!a}', words, FILES, (74, True), lambda one, shown=shown: shown in one['trouble'])
+            tells(f'no {shown!a}', words, FILES, (74, True), lambda one: one['trouble'].startswith('cannot '))
 
 
 def for_scripts():
@@ -36,13 +36,18 @@ def for_scripts():
     lines, coded = answer(second_command.encode, SONG, 256)
     left, right = (int(line.split()[-1]) for line in lines[2:])
     for words, about, out, made, facts in (
-            (['decode', 'song.wav', 'new.wav'], 'song.wav', 'new.wav', DECODED[1], {'frames': 1600, 'bytes': 3244}),
+            (['decode', 'song.wav', 'new.wav'], 'song.wav', 'new.wav', DECODED[1],
+             {'frames': 1600, 'bytes': 3244, 'left_out': []}),
             (['encode', '--align=256', 'song.wav', 'new.wav'], 'song.wav', 'new.wav', coded,
-             {'frames': 1600, 'bytes': len(coded), 'chased_left': left, 'chased_right': right}),
+             {'frames': 1600, 'bytes': len(coded), 'chased_left': left, 'chased_right': right, 'left_out': []}),
             (['add', 'side.wav', 'song.wav', *ADDED], 'side.wav', 'side.wav', ADDED_SONG[1],
-             {'added': 7, 'bytes': len(ADDED_SONG[1])}),
+             {'added': 7, 'bytes': len(ADDED_SONG[1]), 'song': 1, 'place': 0, 'frames': 1600, 'frames_left': 8399,
+              'left_out': []}),
             (['new-side', *NEW, 'new.wav'], 'new.wav', 'new.wav', EMPTY, {'bytes': 44})):
-        tells(f'{words[0]} --json', words, FILES, (0, [{'file': about, **facts}]), changed={out: made})
+        told = {'file': about, 'ok': True, 'refused': 0, 'out': out, **facts}
+        tells(f'{words[0]} --json', words, FILES, (0, [told]), changed={out: made})
+    tells('check --sound --json', ['check', '--sound', 'song.wav'], FILES,
+          (0, [{'file': 'song.wav', 'ok': True, 'refused': 0, 'sound': True}]))
 
 
 def by_input(label, words, files, answered, content, **more):
@@ -62,14 +67,17 @@ def from_input():
                         ('a side', side_files.side((5, 2))), ('a long one that is refused', wrong)):
         by_input(f'list {label}', ['list', '-'], {}, (second_reader.listing(file)[0], None), file)
         by_input(f'check {label}', ['check', '-'], {}, answer(second_command.check, file), file)
-        by_input(f'decode {label}', ['decode', '-', 'new.wav'], {}, answer(second_command.decode, file), file)
-        by_input(f'encode {label}', ['encode', '-', 'new.wav'], {}, answer(second_command.encode, file, 1024), file)
-        by_input(f'add {label}', ['add', 'side.wav', '-', *ADDED], FILES,
-                 answer(second_command.add, EMPTY, file, 7, 9999), file, out='side.wav')
+        without = left_out('standard input', file, KNOWN), left_out('standard input', file, OF_SOUND)
+        by_input(f'decode {label}', ['decode', '-', 'new.wav'], {}, answer(second_command.decode, file), file,
+                 remarks=without[0])
+        by_input(f'encode {label}', ['encode', '-', 'new.wav'], {}, answer(second_command.encode, file, 1024), file,
+                 remarks=without[1])
+        by_input(f'add {label}', ['add', 'side.wav', '-', *ADDED], FILES, added(EMPTY, file, 7, 9999), file,
+                 out='side.wav', remarks=without[1])
         by_input(f'add to {label}', ['add', '-', 'song.wav', *ADDED, '--out=new.wav'], FILES,
-                 answer(second_command.add, file, SONG, 7, 9999), file)
+                 added(file, SONG, 7, 9999), file, remarks=without[0])
     tells('check among others', ['check', 'song.wav', '-', 'side.wav'], FILES,
-          (0, ['song.wav', 'standard input', 'side.wav']), lambda *told: [one['file'] for one in told], input=EMPTY)
+          (0, ['song.wav', '-', 'side.wav']), lambda *told: [one['file'] for one in told], input=EMPTY)
 
 
 def slow_input():
@@ -136,7 +144,7 @@ def no_numbers():
     for number, limit in ((0, 1600), (2**32 - 1, 2**32 - 1)):
         for words in ((f'--number={number}', f'--limit={limit:0100}'), ('--limit', limit, '--number', f'000{number}')):
             does(f'song {number}, limit {limit}', ['add', *words, 'side.wav', 'song.wav'], FILES,
-                 answer(second_command.add, EMPTY, SONG, number, limit), out='side.wav')
+                 added(EMPTY, SONG, number, limit), out='side.wav')
 
 
 def called():

@@ -96,7 +96,7 @@ def placed():
             said = [len(made) if word == 'end' else word for word in words]
             for call in (['list', 'file.wav'], ['check', 'file.wav'], ['decode', 'file.wav', 'new.wav'],
                          ['encode', 'file.wav', 'new.wav']):
-                refuses(f'{call[0]}, {label}', call, {'file.wav': made, 'new.wav': b'old'}, number, where, said)
+                refuses(f'{call[0]}, {label}', call, {'file.wav': made}, number, where, said)
 
 
 def block_places():
@@ -110,7 +110,8 @@ def block_places():
         blocks[block] = blocks[block][:within] + bytes([value]) + blocks[block][within + 1:]
         file = with_junk(sound_files.adpcm(tag, channels, *blocks), 12)
         where = {'file': 'file.wav', 'byte': first(file, b'data')[0] + 8 + align * block + within, 'block': block}
-        for call in (['decode', 'file.wav', 'new.wav'], ['encode', 'file.wav', 'new.wav']):
+        for call in (['decode', 'file.wav', 'new.wav'], ['encode', 'file.wav', 'new.wav'],
+                     ['check', 'file.wav', '--sound']):
             refuses(f'{call[0]}, tag {tag}, {channels} channels, block {block}', call, {'file.wav': file}, 15, where,
                     [channel + 1, value, most])
 
@@ -130,7 +131,7 @@ def unplaced(file):
 
 def not_added(label, side, song, number, limit, refusal, where, said=()):
     """Adding is refused, in place and to another file, and the place is told; the files stay."""
-    files = {'side.wav': side, 'song.wav': song, 'new.wav': b'old'}
+    files = {'side.wav': side, 'song.wav': song}
     answered = answer(second_command.add, side, song, number, limit)
     expect(f'{label}, by the second way', answered, ([f'refused {refusal}'], None))
     words = ['add', 'side.wav', 'song.wav', '--number', number, '--limit', limit]
@@ -174,7 +175,7 @@ def wrong_songs():
 
 def other_refusals():
     """An align that cannot be, and an empty side that cannot."""
-    files = {'file.wav': side_files.song(channels=2), 'new.wav': b'old'}
+    files = {'file.wav': side_files.song(channels=2)}
     for align in (0, 4, 6, 8, 20, 4100, 65535):
         refuses(f'align {align}', ['encode', 'file.wav', 'new.wav', '--align', align], files, 9, {'file': 'file.wav'},
                 [align, 16, 4096, 8])

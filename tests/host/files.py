@@ -1,7 +1,8 @@
 """The command tronalhet on files of other programs, at the borders of the rules, and with chunks that are skipped."""
-from host.places import place_in, record_of, refusal_of, walked, with_junk
-from host.run import ADDED, HOST, MEANINGS, does, picked, refusal_in, tells
+from host.places import place_in, record_of, refusal_of, with_junk
+from host.run import HOST, KNOWN, MEANINGS, OF_SOUND, adds, does, left_out, picked, refusal_in, tells, without_ways
 from host.trying import EMPTY, SONG, empty_for, expect, holding, other_files, printed, put, run
+from host.walk import walked
 from programs import other_songs
 from second import command as second_command, reader as second_reader
 from second.command import answer
@@ -22,22 +23,23 @@ def on_files():
         files = {'file.wav': file, 'side.wav': empty_for(file)}
         does(f'list {name}', ['list', 'file.wav'], files, (second_reader.listing(file)[0], None))
         does(f'check {name}', ['check', 'file.wav'], files, answer(second_command.check, file))
-        does(f'decode {name}', ['decode', 'file.wav', 'new.wav'], files, answer(second_command.decode, file))
+        decoded = answer(second_command.decode, file)
+        does(f'decode {name}', ['decode', 'file.wav', 'new.wav'], files, decoded,
+             remarks=left_out('file.wav', file, KNOWN))
+        heard = decoded if decoded[1] is None else (['accepted'], None)
+        does(f'check the sound of {name}', ['check', '--sound', 'file.wav'], files, heard)
         for align, words in ((1024, []), (40, ['--align', 40])):
             does(f'encode {name} by {align}', ['encode', 'file.wav', 'new.wav', *words], files,
-                 answer(second_command.encode, file, align))
-        does(f'add {name}', ['add', 'side.wav', 'file.wav', *ADDED], files,
-             answer(second_command.add, files['side.wav'], file, 7, 9999), out='side.wav')
+                 answer(second_command.encode, file, align), remarks=left_out('file.wav', file, OF_SOUND))
+        adds(f'add {name}', files['side.wav'], file, 7, 9999, song_name='file.wav')
 
 
 def on_kept_sides():
     """The sides of tests/programs/other_songs.py, in place and not; and that what is decoded is what sox hears."""
     for label, side, song in other_songs.onto():
-        lines, made = answer(second_command.add, side, song, 7, 1000000)
+        lines, _ = answer(second_command.add, side, song, 7, 1000000)
         for out in ('new.wav', 'side.wav'):
-            does(label, ['add', 'side.wav', 'song.wav', '--out', out, '--limit', 1000000, '--number', 7],
-                 {'side.wav': side, 'song.wav': song}, (lines, made),
-                 'song.wav' if lines == ['refused 9'] else 'side.wav', out)
+            adds(label, side, song, 7, 1000000, 'song.wav' if lines == ['refused 9'] else 'side.wav', out=out)
     for heard in sorted(other_songs.HEARD.glob('*.heard')):
         made = answer(second_command.decode, heard.with_suffix('.wav').read_bytes())[1]
         expect(f'whether {heard.name} is decoded', second_reader.read(made)[5] == heard.read_bytes(), True)
@@ -54,9 +56,9 @@ def told_of(name, file):
     """What `check` must tell a script of a file, but for the words of a place."""
     number = refusal_of(file)
     if number is None:
-        return {'file': name, 'refused': 0}
+        return {'file': name, 'ok': True, 'refused': 0}
     where = {'file': name, **place_in(number, file)}
-    return {'file': name, 'refused': number, 'meaning': MEANINGS[number], 'where': where}
+    return {'file': name, 'ok': False, 'refused': number, 'meaning': MEANINGS[number], 'where': where}
 
 
 def many_checked(label, files):
@@ -70,11 +72,13 @@ def many_checked(label, files):
         found, told = picked(lambda *told: told)(run([*HOST, 'check', *named, '--json'], folder))
     expect(f'check {label}', answered[:2], (status, printed(lines)))
     refused = {name: number for name, number in numbers.items() if number}
-    expect(f'check {label}, what it means', answered[2].splitlines()[::2],
+    said = without_ways(answered[2])
+    expect(f'check {label}, where it is', [line.split(':')[1] for line in said[::2]], [f' {name}' for name in refused])
+    expect(f'check {label}, what it means', said[1::2],
            [f'tronalhet: {name}: {number} means: {MEANINGS[number]}' for name, number in refused.items()])
-    expect(f'check {label}, where it is', [line.split(':')[1] for line in answered[2].splitlines()[1::2]],
-           [f' {name}' for name in refused])
     words = [one.get('where', {}).pop('what', '') for one in told]
+    for one in told:
+        one.pop('way_out', None)
     expect(f'check --json {label}', (found, len(told)), (status, len(files)))
     for (name, file), one, what in zip(named.items(), told, words):
         expect(f'check --json {label}, {name}', one, told_of(name, file))

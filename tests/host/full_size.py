@@ -191,7 +191,9 @@ def filled(folder):
         songs[number] = size
         read, end = end + 44 + size, len(side_head(songs)) + sum(songs.values())
         label, words = f'song {number}', ['add', 'side.wav', f'{number}.wav', '--number', number, '--limit', FRAMES]
-        expect(label, measured(label, words, folder, read + end + SPARE), (0, [f'added {number}', f'bytes {end}']))
+        status, lines = measured(label, words, folder, read + end + SPARE)
+        expect(label, (status, lines[:2], lines[-1]),
+               (0, [f'added {number}', f'bytes {end}'], f'frames left {FRAMES - sum(songs.values()) // 4}'))
     expect('whether the side has 300 MB', end >= 300000000, True)
     expect('the part of the full side that is wrong', unlike(folder), None)
 
@@ -286,8 +288,9 @@ def interrupted(folder):
     """
     put(folder / 'one more.wav', wave(STEREO, chunk(b'data', b'song')))
     before = (folder / 'side.wav').stat()
-    add = ['add', 'side.wav', 'one more.wav', '--number=5', '--limit', FRAMES + 1]
-    decode = ['decode', '101.wav', 'old.wav'], ['decode', '101.wav', 'new.wav']
+    # The side has a second name here.
+    add = ['add', 'side.wav', 'one more.wav', '--number=5', '--limit', FRAMES + 1, '--replace']
+    decode = ['decode', '101.wav', 'old.wav', '--replace'], ['decode', '101.wav', 'new.wav']
     for number, commands in ((signal.SIGKILL, [add, *decode]), (signal.SIGTERM, [add, *decode]),
                              (signal.SIGINT, decode), (signal.SIGHUP, decode)):
         for words in commands:
@@ -297,6 +300,8 @@ def interrupted(folder):
             expect(f'{label}, a new file', (folder / 'new.wav').exists(), False)
             expect(f'{label}, the old file', (folder / 'old.wav').read_bytes(), b'old')
             if number == signal.SIGKILL:
+                expect(f'{label}, who may read what is left', [path.stat().st_mode & 0o7777 for path in parts(folder)],
+                       [0o600])
                 swept(label, folder)
     after = (folder / 'side.wav').stat()
     expect('the side after all that', (after.st_ino, after.st_mtime_ns), (before.st_ino, before.st_mtime_ns))

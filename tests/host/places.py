@@ -2,24 +2,13 @@
 import struct
 
 from host.run import refusal_in
+from host.walk import walked
 from second import reader as second_reader
 from vectors import many_files
 from vectors.wave_files import chunk
 
 # A chunk that is skipped, and longer than a file that is read whole.
 JUNK = chunk(b'junk', bytes(range(1, 251)) * 280)
-
-
-def walked(file):
-    """Code, place and size of each chunk that fits, and the place of one that does not, None where all fit."""
-    found, at = [], 12
-    while at < len(file):
-        size = int.from_bytes(file[at + 4:at + 8], 'little')
-        if at + 8 > len(file) or at + 8 + size + size % 2 > len(file):
-            return found, at
-        found.append((file[at:at + 4], at, size))
-        at += 8 + size + size % 2
-    return found, None
 
 
 def codes(file):
@@ -114,7 +103,7 @@ def refusal_of(file):
 def record_of(name, file):
     """What `list` must tell a script of a file that is accepted."""
     (tag, channels, rate, bits, align, samples), frames, cues, plays, _, _ = second_reader.read(file)
-    return {'file': name, 'tag': tag, 'channels': channels, 'rate': rate, 'bits': bits, 'align': align,
+    return {'file': name, 'ok': True, 'refused': 0, 'tag': tag, 'channels': channels, 'rate': rate, 'bits': bits, 'align': align,
             'samples_per_block': samples, 'frames': frames,
             'cues': [{'name': name, 'position': position, 'place': place} for name, position, place in cues],
             'playlist': [{'name': name, 'length': length, 'times': times} for name, length, times in plays]}

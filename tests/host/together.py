@@ -4,10 +4,9 @@ import fcntl
 import os
 import time
 
-from host.run import ADDED, ADDED_SONG, DECODED, FILES, HOST, IN_PLACE, NEW, OTHER, parts
-from host.trying import EMPTY, expect, holding, kept, overlapping, printed, put, run, start
-from second import command as second_command, side as second_side
-from second.command import answer
+from host.run import ADDED, ADDED_SONG, DECODED, FILES, HOST, IN_PLACE, NEW, OTHER, added, parts
+from host.trying import EMPTY, SONG, expect, holding, kept, opened, printed, put, run, start
+from second import side as second_side
 from vectors import side_files
 from vectors.wave_files import chunk, fmt, wave
 
@@ -17,17 +16,48 @@ def adding(side, song, number):
     return [*HOST, 'add', '--number', number, '--limit', 40000, '--', side, song]
 
 
-def two_adds():
-    """No song is lost: the second add waits for the first one, but not for one that was killed."""
-    both = 'added 1\nbytes 3304\n', 'added 2\nbytes 5740\n'
-    for out in ('side.wav', '-sides/side.wav'):
-        overlapping(f'two adds to {out}', 'tronalhet', adding, out, lambda first: None, (both, True, [1, 2]))
-    overlapping('an add after one was killed', 'tronalhet', adding, 'side.wav', lambda one: (one.kill(), one.wait()),
-                (('', 'added 2\nbytes 2504\n'), False, [2]))
+def stuck(label, out, killed, wanted):
+    """An add waits for a song that does not come, and may be killed so. A second add, which knows the side by another
+    path, does not wait for it; then the song comes.
+
+    What is wanted: what the first and the second report, and the songs of the side in the end.
+    """
+    with holding({'song.wav': OTHER}) as folder:
+        put(folder / out, EMPTY)
+        os.mkfifo(folder / 'pipe')
+        with start(adding(out, 'pipe', 1), folder) as first:
+            pipe = opened(folder / 'pipe')
+            killed(first)
+            second = run(adding(folder / out, folder / 'song.wav', 2), '/', timeout=60)
+            with contextlib.suppress(BrokenPipeError):
+                os.write(pipe, SONG)
+            os.close(pipe)
+            told = first.communicate(timeout=60)[0]
+        expect(f'{label}, what the adds report', (told.splitlines()[:2], second[1].splitlines()[:2]), wanted[:2])
+        songs = [song.number for song in second_side.songs((folder / out).read_bytes())]
+        expect(f'{label}, the songs of the side', songs, wanted[2])
+        expect(f'{label}, the files', parts(folder), [])
+
+
+def stuck_songs():
+    """A song that does not come keeps nobody out, and none is lost; the same of a side that comes by a pipe."""
+    for out in ('side.wav', 'folder/side.wav'):
+        stuck(f'two adds to {out}', out, lambda first: None,
+              (['added 1', 'bytes 5740'], ['added 2', 'bytes 2504'], [2, 1]))
+    stuck('an add after one was killed', 'side.wav', lambda one: (one.kill(), one.wait()),
+          ([], ['added 2', 'bytes 2504'], [2]))
+    with sides() as folder:
+        os.mkfifo(folder / 'pipe')
+        with start([*HOST, 'add', 'pipe', 'other.wav', *ADDED, '--out=new.wav'], folder) as first:
+            pipe = opened(folder / 'pipe')
+            expect('an add beside a side that does not come', run([*HOST, *IN_PLACE], folder, timeout=60)[0], 0)
+            os.write(pipe, EMPTY)
+            os.close(pipe)
+            expect('a side that comes late', first.communicate(timeout=60)[0], printed(added(EMPTY, OTHER, 7, 9999)[0]))
 
 
 def locked(folder):
-    """Has the folder for oneself, as ./wave does for an add, until what is given back is closed."""
+    """Has the folder for oneself, as an add does, until what is given back is closed."""
     held = os.open(folder, os.O_RDONLY)
     fcntl.flock(held, fcntl.LOCK_EX)
     return held
@@ -70,12 +100,14 @@ def waits():
     while_locked('a new side', ['new-side', 'new.wav', *NEW], (0, 'bytes 44\n', {'new.wav': EMPTY}))
     while_locked('a new side whose name is taken', ['new-side', 'new.wav', *NEW], (74, '', {}),
                  lambda folder: put(folder / 'new.wav', b'taken'))
-    more, both = answer(second_command.add, made, OTHER, 8, 9999)
+    while_locked('add to a new file whose name is taken', [*IN_PLACE, '--out=new.wav'], (74, '', {}),
+                 lambda folder: put(folder / 'new.wav', b'taken'))
+    more, both = added(made, OTHER, 8, 9999)
     while_locked('add to a side that is changed', ['add', 'side.wav', 'other.wav', '--number=8', '--limit=9999'],
                  (0, printed(more), {'side.wav': both}), lambda folder: put(folder / 'side.wav', made))
-    for name in ('side.wav', 'song.wav'):
-        while_locked(f'add, and {name} vanishes', IN_PLACE, (74, '', {}),
-                     lambda folder, name=name: (folder / name).unlink())
+    while_locked('add, and the side vanishes', IN_PLACE, (74, '', {}), lambda folder: (folder / 'side.wav').unlink())
+    while_locked('add, and the song vanishes', IN_PLACE, (0, printed(lines), {'side.wav': made}),
+                 lambda folder: (folder / 'song.wav').unlink())
 
 
 def elsewhere():
@@ -83,7 +115,7 @@ def elsewhere():
     with sides() as folder:
         held = locked(folder)
         for words in ([*IN_PLACE, '--out=folder/new.wav'], ['list', 'side.wav'], ['check', 'side.wav'],
-                      ['decode', 'song.wav', 'new.wav'], ['encode', 'song.wav', 'new.wav']):
+                      ['decode', 'song.wav', 'new.wav'], ['encode', 'song.wav', 'newer.wav']):
             status, _, said = run([*HOST, *words], folder, timeout=60)
             expect(f'{words} beside a lock', (status, said), (0, ''))
         os.close(held)

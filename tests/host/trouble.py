@@ -8,7 +8,7 @@ import shutil
 import socket
 import tempfile
 
-from host.run import (ADDED, ADDED_SONG, DECODED, FILES, HOST, IN_PLACE, NATIVE, NEW, PROGRAM, does, picked, reading,
+from host.run import (ADDED, ADDED_SONG, DECODED, FILES, HOST, IN_PLACE, NATIVE, NEW, PROGRAM, does, picked, reading, replacing,
                       writing)
 from host.trying import EMPTY, ROOT, SONG, expect, holding, kept, limited, printed, put, run, tried
 from second import command as second_command, reader as second_reader
@@ -96,8 +96,8 @@ def links():
     """Where OUT is a link, the file that it leads to is written, be it there or not, and the link stays."""
     files = {**FILES, 'old.wav': b'old', 'to old': 'second link', 'second link': './old.wav', 'to song': 'song.wav',
              'to side': 'side.wav', 'to new': 'folder/new.wav'}
-    for link, file in (('to old', 'old.wav'), ('to new', 'folder/new.wav')):
-        does(f'decode to a link {link}', ['decode', 'to song', link], files, DECODED, out=file)
+    for link, file, words in (('to old', 'old.wav', ['--replace']), ('to new', 'folder/new.wav', [])):
+        does(f'decode to a link {link}', ['decode', 'to song', link, *words], files, DECODED, out=file)
     does('add by a link', ['add', 'to side', 'song.wav', *ADDED], files, ADDED_SONG, out='side.wav')
     does('a new side by a link', ['new-side', 'to new', *NEW], files, (['bytes 44'], EMPTY), out='folder/new.wav')
 
@@ -109,23 +109,24 @@ def new_names():
                 'it is there already')
     long = 'n' * 255
     for files in (FILES, {**FILES, long: b'old'}):
-        does('a name of 255 bytes', ['decode', 'song.wav', long], files, DECODED, out=long)
+        does('a name of 255 bytes', ['decode', 'song.wav', long, '--replace'], files, DECODED, out=long)
 
 
 def modes():
     """A file that is replaced keeps its permissions; a new one has those that new files have."""
     with holding(FILES) as folder:
         for mode in (0o600, 0o640, 0o664, 0o777):
-            for words in writing('old')[:3]:
+            for words in replacing('old'):
                 put(folder / 'old', b'old')
                 (folder / 'old').chmod(mode)
                 status, _, _ = run([*HOST, *words], folder)
                 expect(f'{words[0]}, mode {mode:o}', (status, (folder / 'old').stat().st_mode & 0o7777), (0, mode))
-        usual = (folder / 'song.wav').stat().st_mode
-        for place in range(4):
-            words = writing(f'new{place}')[place]
-            status, _, _ = run([*HOST, *words], folder)
-            expect(f'{words[0]}, a new file', (status, (folder / f'new{place}').stat().st_mode), (0, usual))
+        for mask in (0o022, 0o027, 0o077, 0o002):
+            for place in range(4):
+                new = folder / f'new-{mask:o}-{place}'
+                words = writing(new.name)[place]
+                status, _, _ = run([*HOST, *words], folder, preexec_fn=lambda mask=mask: os.umask(mask))
+                expect(f'{words[0]}, a new file', (status, new.stat().st_mode & 0o7777), (0, 0o666 & ~mask))
 
 
 @contextlib.contextmanager
@@ -170,11 +171,12 @@ def not_allowed():
                [(74, '', f'tronalhet: cannot read song.wav: {os.strerror(errno.EACCES)}\n')] * 6)
         for name in ('old.wav', 'side.wav'):
             (folder / name).chmod(0o444)
-        stopped('a file that may not be written', [*writing('old.wav'), IN_PLACE], folder, run_there)
+        stopped('a file that may not be written', [*writing('old.wav'), *replacing('old.wav'), IN_PLACE], folder,
+                run_there)
         for name in ('old.wav', 'side.wav'):
             (folder / name).chmod(0o644)
         folder.chmod(0o555)
-        commands = [*writing('old.wav')[:3], *writing('new.wav'), IN_PLACE]
+        commands = [*replacing('old.wav'), *writing('new.wav'), IN_PLACE]
         stopped('a folder that may not be written', commands, folder, run_there)
 
 
@@ -203,7 +205,7 @@ def hidden_folder():
     """In a folder that may be written but not read a file is written; an add, which cannot lock it, is not done."""
     with guarded() as (folder, run_there):
         folder.chmod(0o300)
-        ended = [run_there(words)[:2] for words in [*writing('old.wav')[:2], IN_PLACE]]
+        ended = [run_there(words)[:2] for words in [*replacing('old.wav')[:2], IN_PLACE]]
         folder.chmod(0o755)
         lines, coded = answer(second_command.encode, SONG, 1024)
         expect('in a folder that may not be read', ended, [(0, printed(DECODED[0])), (0, printed(lines)), (74, '')])
@@ -215,7 +217,7 @@ def not_shown():
     for words, told, changed in ((['--help'], '', {}), (['list', '--help'], '', {}),
                                  (['check', 'song.wav'], 'accepted', {}),
                                  (['list', 'song.wav'], second_reader.listing(SONG)[0][0], {}),
-                                 (['encode', 'song.wav', 'new', '--align=6'], 'refused 9', {}),
+                                 (['encode', 'song.wav', 'new.wav', '--align=6'], 'refused 9', {}),
                                  (IN_PLACE, 'added 7', {'side.wav': ADDED_SONG[1]})):
         front = f'tronalhet: cannot write to standard output: {told}'
         tried(f'{words} to a full device', ['bash', '-c', '"$@" >/dev/full', 'bash', *HOST, *words], FILES,
@@ -227,8 +229,8 @@ def no_memory():
     if not NATIVE:
         return
     files = {'file.wav': wave(fmt(bits=8), data(20000000)), 'side.wav': EMPTY, 'old.wav': b'old'}
-    for words, enough in ((['list', 'file.wav'], 0), (['decode', 'file.wav', 'old.wav'], 0),
-                          (['encode', 'file.wav', 'old.wav'], 0), (['add', 'side.wav', 'file.wav', *ADDED], 9)):
+    for words, enough in ((['list', 'file.wav'], 0), (['decode', 'file.wav', 'old.wav', '--replace'], 0),
+                          (['encode', 'file.wav', 'old.wav', '--replace'], 0), (['add', 'side.wav', 'file.wav', *ADDED], 9)):
         with holding(files) as folder:
             status, ended = 74, []
             for size in range(8 << 20, 200 << 20, 4 << 20):

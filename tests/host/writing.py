@@ -1,4 +1,4 @@
-"""Nothing is lost: a full disk, runs that are killed while they write, and what they leave behind."""
+"""Nothing is lost: a full disk, a limit of the system, and what runs that were killed leave."""
 import contextlib
 import errno
 import fcntl
@@ -7,10 +7,9 @@ import pathlib
 import re
 import resource
 import shutil
-import signal
 import subprocess
 
-from host.run import DECODED, FILES, HOST, IN_PLACE, NATIVE, NEW, PART, STEREO, parts, writing
+from host.run import DECODED, FILES, HOST, IN_PLACE, NATIVE, NEW, PART, STEREO, parts, replacing, writing
 from host.trouble import trouble
 from host.trying import SONG, expect, holding, kept, limited, printed, put, run
 from second import command as second_command
@@ -25,10 +24,9 @@ def full_disk():
     on a full disk.
     """
     reason = os.strerror(errno.EFBIG)
-    for name in ('new.wav', 'old.wav'):
-        for words in writing(name)[:3]:
-            trouble(f'{words[0]} to {name} on a full disk', words, {**FILES, 'old.wav': b'old'},
-                    f'cannot write {name}: {reason}', **limited(resource.RLIMIT_FSIZE, 500))
+    for words in [*writing('new.wav')[:3], *replacing('old.wav')]:
+        trouble(f'{words} on a full disk', words, {**FILES, 'old.wav': b'old'}, f'.wav: {reason}',
+                **limited(resource.RLIMIT_FSIZE, 500))
     trouble('add in place on a full disk', IN_PLACE, FILES, f'cannot write side.wav: {reason}',
             **limited(resource.RLIMIT_FSIZE, 500))
     trouble('a new side on a full disk', ['new-side', 'new.wav', *NEW], FILES, f'cannot write new.wav: {reason}',
@@ -47,11 +45,11 @@ def really_full_disk():
     with holding(files) as folder:
         if not shutil.which('unshare') or run([*apart, 'mount', '-t', 'tmpfs', 'none', 'folder'], folder)[0] != 0:
             return
-        for words, (said, after) in ((['decode', 'song.wav', 'old.wav'], full),
+        for words, (said, after) in ((['decode', 'song.wav', 'old.wav', '--replace'], full),
                                      (['decode', 'song.wav', 'new.wav'], full),
                                      (['add', 'side.wav', 'song.wav', '--number=7', '--limit=10000'], full),
                                      # There is room for a copy.
-                                     (['encode', 'song.wav', 'old.wav'], copied_there)):
+                                     (['encode', 'song.wav', 'old.wav', '--replace'], copied_there)):
             ran = subprocess.run([str(word) for word in [*apart, 'sh', '-c', script, 'sh', *HOST, *words]], cwd=folder,
                                  stdout=subprocess.PIPE, stderr=subprocess.PIPE, check=False)
             expect(f'{words} on a small disk', ran.stdout, printed([*said, *after]).encode() + b''.join(after.values()))
@@ -68,25 +66,21 @@ def swept(label, folder):
 
 
 def at_300_bytes():
-    """Has the system kill a program whose file gets longer than that, and keep no picture of its memory."""
+    """Has the system send SIGXFSZ, which ends a program, where a file gets longer than that."""
     resource.setrlimit(resource.RLIMIT_CORE, (0, 0))
     resource.setrlimit(resource.RLIMIT_FSIZE, (300, 300))
 
 
-def killed_in_write():
-    """A run that the system kills in the middle of a write: the old file is whole, and no new one has its name."""
-    files = {**FILES, 'old.wav': b'old'}
-    for words in [*writing('old.wav')[:3], *writing('new.wav')[:3], IN_PLACE]:
-        with holding(files) as folder:
-            status, shown, _ = run([*HOST, *words], folder, preexec_fn=at_300_bytes)
-            expect(f'{words}, killed in a write', (status, shown), (-signal.SIGXFSZ, ''))
-            left = parts(folder)
-            if NATIVE:
-                # An emulator may be killed by the limit before the command writes.
-                expect(f'{words}, killed, what is left', [path.stat().st_size for path in left], [300])
-            others = {name: content for name, content in kept(folder).items() if folder / name not in left}
-            expect(f'{words}, killed, the files', others, {**files, 'folder': None})
-            swept(f'{words}, killed', folder)
+def past_a_limit():
+    """The signal that a file gets longer than the system allows is trouble as a full disk is: nothing is left.
+
+    An emulator is ended by that signal itself; there the command's own unit test is all.
+    """
+    if not NATIVE:
+        return
+    for words in [*replacing('old.wav'), *writing('new.wav')[:3], IN_PLACE]:
+        trouble(f'{words}, past a limit', words, {**FILES, 'old.wav': b'old'}, os.strerror(errno.EFBIG),
+                preexec_fn=at_300_bytes)
 
 
 def living_parts():
@@ -117,7 +111,7 @@ def no_parts():
         os.mkfifo(folder / '.tronalhet-3-0.part')
         ended = 'it waits'
         with contextlib.suppress(subprocess.TimeoutExpired):
-            ended = run([*HOST, 'encode', 'song.wav', 'new.wav'], folder, timeout=5)[0]
+            ended = run([*HOST, 'encode', 'song.wav', 'newer.wav'], folder, timeout=5)[0]
         expect('a named pipe as a part', ended, 0)
 
 
@@ -134,7 +128,9 @@ def flushed():
     with holding(FILES) as folder:
         if not NATIVE or not shutil.which('strace') or run([*watch, 'true'], folder)[0] != 0:
             return
-        for words in [*writing('new.wav')[:3], IN_PLACE, ['new-side', 'newer.wav', *NEW]]:
+        for words in [*replacing('song2.wav'), *writing('new.wav')[:1], IN_PLACE, ['new-side', 'newer.wav', *NEW]]:
+            put(folder / 'song2.wav', SONG)
             status, _, _ = run([*watch, *HOST, *words], folder)
-            expect(f'{words[0]}, the order of its calls', (status, [*calls_in((folder / 'log').read_text())]),
+            calls = [(call[:6], file) for call, file in calls_in((folder / 'log').read_text())]
+            expect(f'{words[0]}, the order of its calls', (status, calls),
                    (0, [('fsync', PART), ('rename', PART), ('fsync', folder.name)]))

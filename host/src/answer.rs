@@ -1,0 +1,133 @@
+//! What a command reports: lines for people on standard output, what they mean and remarks on standard error, and the
+//! same for scripts. docs/JSON.md has the fields.
+use crate::call::Call;
+use crate::shown::{print, Json};
+use crate::stop::{shown, Stop};
+use crate::{eprint, TROUBLE};
+use std::ffi::OsStr;
+use tronalhet::places::{Code, Place};
+use tronalhet::Refusal;
+
+/// What was done: lines for people, the same for scripts, and what a person should know besides.
+#[derive(Default)]
+pub struct Told {
+    pub lines: Vec<String>,
+    pub fields: Vec<(&'static str, Json)>,
+    pub remarks: Vec<String>,
+}
+
+pub type Answer = Result<Told, Stop>;
+
+impl Told {
+    /// A line that scripts have as `ok`.
+    pub fn line(line: &str) -> Told {
+        Told { lines: vec![line.into()], ..Told::default() }
+    }
+
+    /// Facts that are one number each, which is how most of what is reported looks.
+    pub fn facts(facts: &[(&'static str, usize)]) -> Told {
+        Told {
+            lines: facts.iter().map(|(name, number)| format!("{} {number}", name.replace('_', " "))).collect(),
+            fields: facts.iter().map(|(name, number)| (*name, Json::Number(*number as u64))).collect(),
+            ..Told::default()
+        }
+    }
+
+    /// One field more for scripts.
+    pub fn with(mut self, name: &'static str, value: Json) -> Told {
+        self.fields.push((name, value));
+        self
+    }
+
+    /// The chunks of each file that the new one does not have.
+    pub fn without(mut self, files: &[(&OsStr, Vec<(Code, usize)>)]) -> Told {
+        let mut all = vec![];
+        for (name, kinds) in files.iter().filter(|(_, kinds)| !kinds.is_empty()) {
+            let words: Vec<String> = kinds.iter().map(kind_in_words).collect();
+            self.remarks.push(format!("{}: left out: {}", shown(name), words.join(", ")));
+            all.extend(kinds.iter().map(|(code, count)| {
+                Json::Object(vec![
+                    ("file", text(name)),
+                    ("chunk", Json::Text(code.to_string())),
+                    ("count", Json::Number(*count as u64)),
+                ])
+            }));
+        }
+        self.with("left_out", Json::List(all))
+    }
+}
+
+/// A name as scripts get it: as it was given, with signs for bytes that are no text.
+pub fn text(name: &OsStr) -> Json {
+    Json::Text(name.to_string_lossy().into())
+}
+
+fn kind_in_words((code, count): &(Code, usize)) -> String {
+    match count {
+        1 => format!("chunk '{code}'"),
+        _ => format!("{count} chunks '{code}'"),
+    }
+}
+
+/// Prints an answer about a file, and then on standard error where the fault is, what it means and the way out of it;
+/// its exit status.
+pub fn say(name: &str, call: &Call, about: &OsStr, answer: Answer) -> u8 {
+    let front = if call.words.len() > 1 && call.command == "check" { format!("{}: ", shown(about)) } else { "".into() };
+    let (number, status) = match &answer {
+        Ok(_) => (0, 0),
+        Err(Stop::Trouble(_)) => (0, TROUBLE),
+        Err(Stop::Refused { refusal: Refusal::AlreadyListed, .. }) => (Refusal::AlreadyListed.number(), 0),
+        Err(Stop::Refused { refusal, .. }) => (refusal.number(), refusal.number()),
+    };
+    let Told { lines, fields, remarks } = answer.unwrap_or_else(|stop| stopped(&front, stop));
+    let text: String = if call.json {
+        let mut all =
+            vec![("file", text(about)), ("ok", Json::Bool(status == 0)), ("refused", Json::Number(number.into()))];
+        all.extend(fields);
+        format!("{}\n", Json::Object(all))
+    } else {
+        lines.iter().map(|line| format!("{front}{line}\n")).collect()
+    };
+    let printed = print(name, &text);
+    remarks.iter().for_each(|line| eprint(name, line));
+    printed.max(status)
+}
+
+/// Why nothing was done.
+fn stopped(front: &str, stop: Stop) -> Told {
+    let (refusal, file, place, way_out) = match stop {
+        Stop::Trouble(what) => {
+            let fields = vec![("trouble", Json::Text(what.clone()))];
+            return Told { fields, remarks: vec![what], ..Told::default() };
+        }
+        Stop::Refused { refusal, file, place, way_out } => (refusal, file, place, way_out),
+    };
+    let mut told = Told::line(&refusal.to_string()).with("meaning", Json::Text(refusal.meaning().into()));
+    told.remarks.extend(place.iter().map(|place| format!("{}: {place}", shown(&file))));
+    told.remarks.push(format!("{front}{} means: {}", refusal.number(), refusal.meaning()));
+    told.remarks.extend(way_out.iter().map(|way| format!("{front}way out: {way}")));
+    if let Some(place) = place {
+        told = told.with("where", place_fields(&file, place));
+    }
+    match way_out {
+        Some(way) => told.with("way_out", Json::Text(way)),
+        None => told,
+    }
+}
+
+/// Where a fault is, for scripts.
+fn place_fields(file: &OsStr, place: Place) -> Json {
+    let number = |name, value: Option<u64>| value.map(|value| (name, Json::Number(value)));
+    let parts = [
+        Some(("file", text(file))),
+        place.chunk.map(|code| ("chunk", Json::Text(code.to_string()))),
+        number("block", place.block.map(|block| block.number.into())),
+        number("blocks", place.block.map(|block| block.of.into())),
+        number("channel", place.channel.map(u64::from)),
+        number("cue", place.cue.map(|cue| cue.0.into())),
+        place.field.map(|name| ("field", Json::Text(name.into()))),
+        number("byte", place.byte.map(|byte| byte.0 as u64)),
+        Some(("what", Json::Text(place.what))),
+    ];
+    Json::Object(parts.into_iter().flatten().collect())
+}
