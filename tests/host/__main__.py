@@ -20,7 +20,7 @@ from host.slips import (backups, closed_pipes, closed_streams, kept_twice, links
 from host.together import elsewhere, many_decodes, stuck_songs, ten_adds, ten_sides, waits
 from host.trouble import (devices, hidden_folder, links, modes, new_names, no_memory, not_allowed, not_read, not_shown,
                           not_written, same_file, shared, special_files)
-from host.trying import expect, report
+from trying import expect, report
 from host.wave import built_again, by_wave, demonstration, readme, wave_refuses
 from host.writing import flushed, full_disk, past_a_limit, living_parts, no_parts, really_full_disk
 

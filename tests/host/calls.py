@@ -6,7 +6,7 @@ import time
 
 from host.places import record_of, with_junk
 from host.run import ADDED, ADDED_SONG, DECODED, FILES, HOST, KNOWN, NEW, OF_SOUND, added, does, left_out, tells
-from host.trying import EMPTY, SONG, expect, holding, printed, start, tried
+from trying import EMPTY, SONG, expect, holding, printed, start, tried
 from second import command as second_command, reader as second_reader
 from second.command import answer
 from vectors import side_files, wave_files

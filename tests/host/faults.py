@@ -3,7 +3,7 @@ import random
 
 from host.places import first, place_in, refusal_of, with_junk
 from host.run import MOST, does, refuses
-from host.trying import expect
+from trying import expect
 from second import command as second_command, reader as second_reader, side as second_side
 from second.command import answer
 from vectors import side_files, sound_files

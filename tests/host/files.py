@@ -1,7 +1,7 @@
 """The command tronalhet on files of other programs, at the borders of the rules, and with chunks that are skipped."""
 from host.places import place_in, record_of, refusal_of, with_junk
 from host.run import HOST, KNOWN, MEANINGS, OF_SOUND, adds, does, left_out, picked, refusal_in, tells, without_ways
-from host.trying import EMPTY, SONG, empty_for, expect, holding, other_files, printed, put, run
+from trying import EMPTY, SONG, empty_for, expect, holding, other_files, printed, put, run
 from host.walk import walked
 from programs import other_songs
 from second import command as second_command, reader as second_reader

@@ -14,7 +14,7 @@ import tempfile
 import time
 
 from host.run import FILES, HOST, MOST, NATIVE, STEREO, attempted, parts, reading
-from host.trying import ROOT, expect, put, run, start
+from trying import ROOT, expect, put, run, start
 from host.writing import swept
 from second import ima as second_ima
 from vectors.wave_files import chunk, cue, entry, fmt, plst, point, wave

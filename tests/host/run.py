@@ -4,7 +4,7 @@ import json
 import platform
 import re
 
-from host.trying import EMPTY, ROOT, SONG, WRONG, make, meanings, printed, tried
+from trying import EMPTY, ROOT, SONG, WRONG, make, meanings, printed, tried
 from host.walk import walked
 from second import command as second_command, reader as second_reader, side as second_side
 from second.command import answer

@@ -6,7 +6,7 @@ import subprocess
 from host.run import (ADDED, ADDED_SONG, DECODED, FILES, HOST, IN_PLACE, KNOWN, NEW, OF_SOUND, OTHER, added, adds, does,
                       left_out, parts, reading, replacing, tells, writing)
 from host.trouble import trouble
-from host.trying import EMPTY, SONG, expect, holding, kept, put, run
+from trying import EMPTY, SONG, expect, holding, kept, put, run
 from second import command as second_command
 from second.command import answer
 from vectors import side_files

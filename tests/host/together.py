@@ -5,7 +5,7 @@ import os
 import time
 
 from host.run import ADDED, ADDED_SONG, DECODED, FILES, HOST, IN_PLACE, NEW, OTHER, added, parts
-from host.trying import EMPTY, SONG, expect, holding, kept, opened, printed, put, run, start
+from trying import EMPTY, SONG, expect, holding, kept, opened, printed, put, run, start
 from second import side as second_side
 from vectors import side_files
 from vectors.wave_files import chunk, fmt, wave

@@ -10,7 +10,7 @@ import tempfile
 
 from host.run import (ADDED, ADDED_SONG, DECODED, FILES, HOST, IN_PLACE, NATIVE, NEW, PROGRAM, does, picked, reading, replacing,
                       writing)
-from host.trying import EMPTY, ROOT, SONG, expect, holding, kept, limited, printed, put, run, tried
+from trying import EMPTY, ROOT, SONG, expect, holding, kept, limited, printed, put, run, tried
 from second import command as second_command, reader as second_reader
 from second.command import answer
 from vectors.wave_files import data, fmt, wave

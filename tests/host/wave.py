@@ -6,7 +6,7 @@ import textwrap
 import time
 
 from host.run import FILES, HOST, MEANINGS, refusal_in
-from host.trying import EMPTY, ROOT, SONG, expect, holding, make, printed, run, tried
+from trying import EMPTY, ROOT, SONG, expect, holding, make, printed, run, tried
 from second import command as second_command, reader as second_reader
 from second.command import answer
 from vectors.wave_files import cue, data, fmt, point, wave

@@ -11,7 +11,7 @@ import subprocess
 
 from host.run import DECODED, FILES, HOST, IN_PLACE, NATIVE, NEW, PART, STEREO, parts, replacing, writing
 from host.trouble import trouble
-from host.trying import SONG, expect, holding, kept, limited, printed, put, run
+from trying import SONG, expect, holding, kept, limited, printed, put, run
 from second import command as second_command
 from second.command import answer
 from vectors.wave_files import chunk, data, wave

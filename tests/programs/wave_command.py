@@ -21,7 +21,7 @@ import tempfile
 import textwrap
 import time
 
-from host.trying import (EMPTY, ROOT, SONG, empty_for, expect, kept, limited, make, meanings, other_files, overlapping,
+from trying import (EMPTY, ROOT, SONG, empty_for, expect, kept, limited, make, meanings, other_files, overlapping,
                          printed, put, report, run, tried)
 from programs import other_songs
 from programs.running import KIT, command

@@ -12,7 +12,7 @@ import time
 from programs import other_programs, other_songs
 from second import reader as second_reader, side as second_side
 
-ROOT = pathlib.Path(__file__).resolve().parent.parent.parent
+ROOT = pathlib.Path(__file__).resolve().parent.parent
 sys.path.insert(0, str(ROOT / 'demo'))
 import make
 
