@@ -9,7 +9,6 @@ import sys
 import tempfile
 import time
 
-from programs import other_programs, other_songs
 from second import reader as second_reader, side as second_side
 
 ROOT = pathlib.Path(__file__).resolve().parent.parent
@@ -94,19 +93,6 @@ def tried(label, words, files, wanted, changed, seen=lambda answer: answer, **op
         expect(f'{label}, the files that are there', sorted(found), sorted(after))
         wrong = [file for file in after if found.get(file) != after[file]]
         expect(f'{label}, the files that are not as they must be', wrong, [])
-
-
-# ---- files of other programs
-
-def other_files():
-    """The files of other programs, by name; each once. Of two that differ and have one name, one has its crate's."""
-    found = {}
-    for folder in (other_songs.HEARD, other_programs.DATA, other_songs.DATA):
-        for path in sorted(folder.glob('*.wav')):
-            file = path.read_bytes()
-            if file not in found.values():
-                found[f'{folder.parent.name}-{path.name}' if path.name in found else path.name] = file
-    return found
 
 
 def empty_for(song):

@@ -1,9 +1,10 @@
 """The command tronalhet on files of other programs, at the borders of the rules, and with chunks that are skipped."""
 from host.places import place_in, record_of, refusal_of, with_junk
 from host.run import HOST, KNOWN, MEANINGS, OF_SOUND, adds, does, left_out, picked, refusal_in, tells, without_ways
-from trying import EMPTY, SONG, empty_for, expect, holding, other_files, printed, put, run
 from host.walk import walked
-from programs import other_songs
+from data.others import HEARD, other_files
+from data.songs import onto
+from trying import EMPTY, SONG, empty_for, expect, holding, printed, put, run
 from second import command as second_command, reader as second_reader
 from second.command import answer
 from vectors import wave_files
@@ -35,12 +36,12 @@ def on_files():
 
 
 def on_kept_sides():
-    """The sides of tests/programs/other_songs.py, in place and not; and that what is decoded is what sox hears."""
-    for label, side, song in other_songs.onto():
+    """The sides of tests/data/songs.py, in place and not; and that what is decoded is what sox hears."""
+    for label, side, song in onto():
         lines, _ = answer(second_command.add, side, song, 7, 1000000)
         for out in ('new.wav', 'side.wav'):
             adds(label, side, song, 7, 1000000, 'song.wav' if lines == ['refused 9'] else 'side.wav', out=out)
-    for heard in sorted(other_songs.HEARD.glob('*.heard')):
+    for heard in sorted(HEARD.glob('*.heard')):
         made = answer(second_command.decode, heard.with_suffix('.wav').read_bytes())[1]
         expect(f'whether {heard.name} is decoded', second_reader.read(made)[5] == heard.read_bytes(), True)
 

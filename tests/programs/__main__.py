@@ -3,15 +3,14 @@
 
     python3 -m programs [COUNT [SEED]]      in tests/, after `rt check` or `rt ci`; COUNT generated files are read,
                                             and a tenth as many sounds coded, files decoded, records written,
-                                            songs added, approval copies made and files written again
+                                            songs added and approval copies made
 """
 import os
-import pathlib
 import subprocess
 import sys
-import tempfile
 
-from programs import other_programs, other_songs, written_files
+from data import others, songs
+from programs import small
 from programs.running import ROOT, run
 from second import reader as second_reader
 from vectors import approval_copies, ima_sounds, many_files, side_files, sound_files, wave_files, writer_records
@@ -36,6 +35,8 @@ def listings():
     yield 'a folder', run('wave_list', stdin=folder), refused
     os.close(folder)
     yield 'a file by and by', in_pieces(wave_files.example()), '\n'.join(wave_files.EXAMPLE) + '\n'
+    for name, expected in others.listings():
+        yield name, run('wave_list', input=(others.REPORTED / name).read_bytes()), expected
 
 
 def in_pieces(file):
@@ -56,9 +57,9 @@ def read_files(count, seed):
 
 
 def other_sides():
-    """The sides and songs of tests/programs/other_songs.py as entries of side_vectors."""
-    for label, side, song in other_songs.onto():
-        yield side_files.vector(label, side, song, other_songs.NUMBER, other_songs.LIMIT, side_files.ROOM)
+    """The sides and songs of tests/data/songs.py as entries of side_vectors."""
+    for label, side, song in songs.onto():
+        yield side_files.vector(label, side, song, songs.NUMBER, songs.LIMIT, side_files.ROOM)
 
 
 def batches(vectors):
@@ -85,23 +86,6 @@ def unlike(name, vectors):
         yield from differences(run(name, input=data).splitlines(), lines)
 
 
-def unlike_named(program, files, lines_of):
-    """The same of a program that takes names of files; lines_of gives what it must write of a file."""
-    named = {str(place): file for place, file in enumerate(files)}
-    with tempfile.TemporaryDirectory() as folder:
-        for name, file in named.items():
-            pathlib.Path(folder, name).write_bytes(file)
-        wrote = run(program, *named, cwd=folder).splitlines()
-    return differences(wrote, [line for name, file in named.items() for line in (name, *lines_of(file))])
-
-
-def files_again(count, seed):
-    """The files of other programs, the border files of the reader, and generated ones."""
-    yield from (path.read_bytes() for path in sorted(other_programs.DATA.glob('*.wav')))
-    yield from (file for _, file, _ in wave_files.all_files())
-    yield from many_files.files(count, seed)
-
-
 def main(count=20000, seed=1):
     count, seed = int(count), int(seed)
     wrong = [f'wave_list on {label} wrote {wrote!r}' for label, wrote, expected in listings() if wrote != expected]
@@ -111,13 +95,11 @@ def main(count=20000, seed=1):
                  'side_vectors': [*other_sides(), *side_files.many(count // 10, seed)],
                  'approval_vectors': approval_copies.many(count // 10, seed)}
     unlikes = {name: unlike(name, vectors) for name, vectors in generated.items()}
-    unlikes['written_other'] = unlike_named('written_other', files_again(count // 10, seed), written_files.again)
-    unlikes['side_other'] = unlike_named('side_other', files_again(count // 10, seed), other_songs.added)
     wrong += [f'{name} wrote {wrote!r}, in Python it is {expected!r}'
               for name, pairs in unlikes.items() for wrote, expected in pairs]
     for line in wrong[:20]:
         print(f'tests/programs: {line}')
-    return 1 if wrong else 0
+    return max(1 if wrong else 0, small.main())
 
 
 if __name__ == '__main__':

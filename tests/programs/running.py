@@ -1,22 +1,24 @@
-"""How the tests run a program of Rattle that `rt` has built."""
+"""How the tests run a program that was built for x86-64."""
 import os
 import pathlib
 import platform
 import shutil
 import subprocess
 
-ROOT = pathlib.Path(__file__).resolve().parent.parent.parent
+from trying import ROOT
+
 KIT = pathlib.Path(os.environ.get('RATTLE_HOME') or pathlib.Path(shutil.which('rt')).resolve().parent.parent)
+TOOLS = KIT / 'on' / platform.machine() / 'toolchain'
+# On another processor the kit's emulator runs them.
+EMULATOR = [TOOLS / 'bin' / 'qemu-x86_64'] if (TOOLS / 'bin' / 'qemu-x86_64').exists() else []
 
 
 def command(name):
-    """The words that start a program; on another processor than x86-64 the kit's emulator runs it."""
-    tools = KIT / 'on' / platform.machine() / 'toolchain'
-    emulator = tools / 'bin' / 'qemu-x86_64'
-    words = [tools / 'lib' / 'ld-linux-x86-64.so.2', '--library-path', tools / 'lib', ROOT / 'target' / 'bin' / name]
-    return [emulator, *words] if emulator.exists() else words
+    """The words that start a program of Rattle that `rt` has built."""
+    return [*EMULATOR, TOOLS / 'lib' / 'ld-linux-x86-64.so.2', '--library-path', TOOLS / 'lib',
+            ROOT / 'target' / 'bin' / name]
 
 
 def run(name, *words, **options):
-    """What a program writes with these arguments."""
+    """What such a program writes with these arguments."""
     return subprocess.run([*command(name), *words], stdout=subprocess.PIPE, check=True, **options).stdout.decode()

@@ -11,8 +11,8 @@ import string
 import struct
 import sys
 
-from programs import other_programs, other_songs, side_story, written_files
-from second import command as second_command, ima as second_ima, reader as second_reader, sound as second_sound
+from data.others import HEARD, REPORTED
+from second import command as second_command, reader as second_reader
 from second.reader import mixed
 from vectors import approval_copies, ima_sounds, side_files, sound_files, wave_files, writer_records
 
@@ -41,12 +41,6 @@ REFUSALS = """\
 19 not a side
 20 no such block
 """
-
-# Files of sound_other/data that are refused, whole and by their first block.
-NOT_HEARD = {
-    # libsndfile divides the fact count of IMA by the channels: 757 for three blocks of 505 frames.
-    'sndfile-ima-stereo-refused.wav': 11,
-}
 
 
 def hexed(data):
@@ -146,68 +140,6 @@ def approval():
     return joined(approval_copies.all_vectors())
 
 
-def ima_other():
-    """libsndfile's blocks of each sound; the chased samples by the second coder."""
-    names, lines = [], []
-    for path in sorted((CRATES / 'ima_other' / 'data').glob('*.wav')):
-        raw = path.with_suffix('.raw').read_bytes()
-        found = second_reader.walk(path.read_bytes())
-        _, channels, _, _, align, _ = second_reader.layout(found[b'fmt '][1])
-        blocks = found[b'data'][1]
-        coded, left, right = second_ima.encode(struct.unpack(f'<{len(raw) // 2}h', raw), channels, align, len(blocks))
-        if coded != blocks:
-            raise ValueError(f'{path.name}: libsndfile and the second coder differ')
-        names += [path.name, path.with_suffix('.raw').name]
-        lines += [path.name, f'coded bytes {len(blocks)} mixed {mixed(blocks)}', f'chased left {left} right {right}']
-    if not names:
-        raise ValueError('files are missing in ima_other/data')
-    return b'', '\n'.join(lines) + '\n', names
-
-
-def heard_lines(file, heard):
-    """What must be printed of a file by what another program hears in it: the whole, and block by block."""
-    tag, channels, _, _, _, samples = second_reader.layout(second_reader.walk(file)[b'fmt '][1])
-    lines = [f'frames {len(heard) // (2 * channels)}', f'bytes {len(heard)} mixed {mixed(heard)}']
-    size = 2 * channels * samples
-    for part in [heard[at:at + size] for at in range(0, len(heard), size) if tag != 1]:
-        lines += [f'frames {samples}', f'bytes {len(part)} mixed {mixed(part)}']
-    return lines + ['refused 20']
-
-
-def sound_other():
-    """What ffmpeg and sox hear in each file; the second decoder must hear the same."""
-    names, lines = [], []
-    for path in sorted((CRATES / 'sound_other' / 'data').glob('*.wav')):
-        file, heard = path.read_bytes(), path.with_suffix('.heard')
-        names, lines = names + [path.name], lines + [path.name]
-        if path.name in NOT_HEARD:
-            lines += [f'refused {NOT_HEARD[path.name]}'] * 2
-            continue
-        _, decoded = second_sound.decode(file, 65536)
-        if struct.pack(f'<{len(decoded)}h', *decoded) != heard.read_bytes():
-            raise ValueError(f'{path.name}: the program that heard it and the second decoder differ')
-        lines += heard_lines(file, heard.read_bytes())
-    if not NOT_HEARD.keys() < set(names):
-        raise ValueError('files are missing in sound_other/data')
-    return b'', '\n'.join(lines) + '\n', names
-
-
-def named(files):
-    """For a program that takes names of files: no input, the lines under each name, and the names."""
-    files = list(files)
-    return b'', ''.join(f'{line}\n' for name, lines in files for line in (name, *lines)), [name for name, _ in files]
-
-
-def written_other():
-    """The files of tests/programs/written_files.py, which must come out as they stand, and files of other programs."""
-    return named(written_files.expected())
-
-
-def side_other():
-    """The files of other programs that tests/programs/other_songs.py adds to sides."""
-    return named(other_songs.expected())
-
-
 def copied(program, *sources):
     """The files that a program is run on, which are copies of files that stand elsewhere, and nothing else."""
     there = {path.name: path.read_bytes() for path in (CRATES / program / 'data').iterdir()}
@@ -228,10 +160,10 @@ def command(program, work, sources, *more):
 
 def commands():
     """The programs that a volunteer calls, by name."""
-    others, heard, demo = CRATES / 'other_programs' / 'data', CRATES / 'sound_other' / 'data', CRATES.parent / 'demo'
-    yield 'wave_check', second_command.check, [others / 'sndfile-pcm16-mono-cues.wav']
-    yield 'wave_decode', second_command.decode, [heard / 'sox-ima-mono-short-block.wav'], 'decoded.wav'
-    yield 'wave_encode', second_command.encode, [heard / 'sox-pcm16-mono-clipped.wav'], 'copy.wav', 256
+    demo = CRATES.parent / 'demo'
+    yield 'wave_check', second_command.check, [REPORTED / 'sndfile-pcm16-mono-cues.wav']
+    yield 'wave_decode', second_command.decode, [HEARD / 'sox-ima-mono-short-block.wav'], 'decoded.wav'
+    yield 'wave_encode', second_command.encode, [HEARD / 'sox-pcm16-mono-clipped.wav'], 'copy.wav', 256
     yield 'side_add', second_command.add, [demo / 'empty-side.wav', demo / 'school-song.wav'], 102, 4000, 'side.wav'
 
 
@@ -240,14 +172,7 @@ def programs():
     makers = units, little, samples, reader, ima, sound, writer, side, approval
     made = {f'{make.__name__}_vectors': (*make(), None) for make in makers}
     made['wave_list'] = wave_files.example(), '\n'.join(wave_files.EXAMPLE) + '\n', None
-    others = list(other_programs.expected())
-    made['other_programs'] = b'', ''.join(f'{name}\n{text}' for name, text in others), [name for name, _ in others]
-    made['ima_other'] = ima_other()
-    made['sound_other'] = sound_other()
-    made['written_other'] = written_other()
-    made['side_other'] = side_other()
     made.update({words[0]: command(*words) for words in commands()})
-    made['side_story'] = b'', '\n'.join(side_story.lines()) + '\n', None
     return made
 
 

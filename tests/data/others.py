@@ -1,24 +1,28 @@
-#!/usr/bin/env python3
-"""What document 01 says of the WAVE files that other programs made, worked out from those programs' reports.
+"""The files of sox, ffmpeg and libsndfile in this folder, and what document 01 says of them.
 
-    tests/programs/other_programs.py     prints the name of each file and what the listing program must print of it
+    reported/   NAME.wav, and in NAME.txt what the program that made it reports of it
+    heard/      NAME.wav, and in NAME.heard its sound as another program hears it
+    coded/      NAME.raw, a sound, and in NAME.wav libsndfile's IMA blocks of it
+    written/    NAME.wav as `write` must write it, and in NAME.txt what the three programs report of it
 
-The files stand in crates/other_programs/data, and beside each NAME.wav stands NAME.txt, the report of
-the program that made it. Nothing here looks into a WAVE file.
+The script `make` of each folder made all that is there. Nothing here looks into a WAVE file.
 """
 import pathlib
 import re
 
-DATA = pathlib.Path(__file__).resolve().parent.parent.parent / 'crates' / 'other_programs' / 'data'
+REPORTED, HEARD, CODED, WRITTEN = (pathlib.Path(__file__).resolve().parent / name
+                                   for name in ('reported', 'heard', 'coded', 'written'))
+# How many WAVE files each folder has.
+HELD = {REPORTED: 31, HEARD: 22, CODED: 9, WRITTEN: 21}
 
-# The encodings that document 01 takes, as sox, ffmpeg and libsndfile call them.
+# The encodings that document 01 accepts, as sox, ffmpeg and libsndfile call them.
 TAGS = {
     'Unsigned Integer PCM': 1, 'Signed Integer PCM': 1, 'IMA ADPCM': 17, 'MS ADPCM': 2,
     'pcm_u8': 1, 'pcm_s16le': 1, 'adpcm_ima_wav': 17, 'adpcm_ms': 2,
     'WAVE_FORMAT_PCM': 1, 'WAVE_FORMAT_IMA_ADPCM': 17, 'WAVE_FORMAT_MS_ADPCM': 2,
 }
 
-# The programs read these back, document 01 refuses them.
+# Files of reported/ that the programs read back and document 01 refuses.
 REFUSED = {
     # Above a rate of 48,000 ffmpeg writes the extensible format, tag 65534.
     'ffmpeg-extensible-192000-refused.wav': 9,
@@ -31,6 +35,30 @@ REFUSED = {
     # The big-endian form opens with `RIFX`.
     'sox-rifx-refused.wav': 2,
 }
+
+# Files of heard/ that document 01 refuses, so that nothing is heard in them.
+NOT_HEARD = {
+    # As above: 757 for three blocks of 505 frames.
+    'sndfile-ima-stereo-refused.wav': 11,
+}
+
+
+def paths(folder):
+    """The WAVE files of a folder, in order of name."""
+    found = sorted(folder.glob('*.wav'))
+    if len(found) != HELD[folder]:
+        raise ValueError(f'{folder.name}/ has {len(found)} files, and must have {HELD[folder]}')
+    return found
+
+
+def files_in(*folders):
+    """The WAVE files of folders, by folder and name."""
+    return {f'{folder.name}/{path.name}': path.read_bytes() for folder in folders for path in paths(folder)}
+
+
+def other_files():
+    """The files that other programs made, but for those of coded/, whose sound alone counts."""
+    return files_in(HEARD, REPORTED)
 
 
 def one(pattern, report):
@@ -65,21 +93,13 @@ def sndfile(report):
     return encoding, one(r'^Channels +: (\d+)$', report), one(r'^Sample Rate +: (\d+)$', report), bits, frames, cues
 
 
-def expected():
-    """Yields the name of each file and the text that document 01 prescribes for it, in order of name."""
-    names = sorted(path.name for path in DATA.glob('*.wav'))
-    if not names or not REFUSED.keys() <= set(names):
-        raise ValueError(f'files are missing in {DATA.name}')
-    for name in names:
-        if name in REFUSED:
-            yield name, f'refused {REFUSED[name]}\n'
+def listings():
+    """Yields the name of each file of reported/ and the listing that document 01 prescribes for it."""
+    for path in paths(REPORTED):
+        if path.name in REFUSED:
+            yield path.name, f'refused {REFUSED[path.name]}\n'
             continue
-        read = {'sox': sox, 'ffmpeg': ffmpeg, 'sndfile': sndfile}[name.split('-')[0]]
-        encoding, channels, rate, bits, frames, cues = read((DATA / name).with_suffix('.txt').read_text())
+        read = {'sox': sox, 'ffmpeg': ffmpeg, 'sndfile': sndfile}[path.name.split('-')[0]]
+        encoding, channels, rate, bits, frames, cues = read(path.with_suffix('.txt').read_text())
         line = f'wave tag {TAGS[encoding]} channels {channels} rate {rate} bits {bits} frames {frames}\n'
-        yield name, line + ''.join(f'cue {number} at {place}\n' for number, place in cues)
-
-
-if __name__ == '__main__':
-    for file, text in expected():
-        print(file, text, sep='\n', end='')
+        yield path.name, line + ''.join(f'cue {number} at {place}\n' for number, place in cues)

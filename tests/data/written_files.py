@@ -1,43 +1,23 @@
-#!/usr/bin/env python3
 """Files as `write` must write them, which sox, ffmpeg and libsndfile read as document 01 means them.
 
-    tests/programs/written_files.py              compares the files and the reports of crates/written_other/data with what
-                                        is here, and prints what the program `written_other` must print
-    tests/programs/written_files.py --write      writes the files there; data/make does that, and then asks the programs
+    python3 -m data.written_files    in tests/: writes the files of data/written; its `make` does that, and then asks
+                                     the programs
 
 Beside each NAME.wav stands NAME.txt, the reports of the three programs. No file is empty: ffmpeg and sndfile-info
 complain of any file without sound. Of an odd length of sound libsndfile remarks that it is odd, in files of
 sox and of its own too; the pad is there.
 """
 import hashlib
-import pathlib
 import re
 import struct
-import sys
 
-from programs import other_programs
-from programs.other_programs import TAGS, ffmpeg, one
-from second import (ima as second_ima, microsoft as second_microsoft, reader as second_reader, sound as second_sound,
-                    writer as second_writer)
-from second.reader import PAIRS, mixed
+from data.others import TAGS, WRITTEN, ffmpeg, one, paths
+from second import ima as second_ima, microsoft as second_microsoft, sound as second_sound, writer as second_writer
+from second.reader import PAIRS
 from second.writer import Record, samples_in
 
-DATA = pathlib.Path(__file__).resolve().parent.parent.parent / 'crates' / 'written_other' / 'data'
 ODD = "*** 'data' chunk should be an even number of bytes in length."
 IMA, MICROSOFT = 17, 2
-
-# Files of other_programs/data that are read and written again, and how they come out. `rt` runs a program on its own
-# data/ alone, so data/others has these few once more; tests/programs takes all of them from where they stand.
-OTHERS = {
-    # The title is left out, and the average is worked out, where ffmpeg writes 16,000 whatever the format.
-    'ffmpeg-microsoft-stereo-title.wav': 'other bytes',
-    'sndfile-pcm16-mono-cues.wav': 'same bytes',
-    # The title stands behind sound of an odd length.
-    'sndfile-pcm8-mono-odd-title-after.wav': 'other bytes',
-    # sox rounds the average up.
-    'sox-ima-mono-empty.wav': 'other bytes',
-    'sox-rifx-refused.wav': 'refused 2',
-}
 
 
 def tone(frames, channels):
@@ -196,60 +176,19 @@ def said(report):
     yield 'heard', (parts['heard'].split()[0],)
 
 
-def again(file):
-    """What must be printed of a file that is read and written again, by the second reader and the second writer."""
-    try:
-        form, frames, cues, plays, _, sound = second_reader.read(file)
-    except second_reader.Refused as refusal:
-        return [f'refused {refusal.args[0]}']
-    made = second_writer.write(Record(form, frames, len(cues), cues, len(plays), plays), sound, 65536)
-    return [f'bytes {len(made)} mixed {mixed(made)}', 'same bytes' if made == file else 'other bytes']
-
-
-def others():
-    """Yields the name of each file of another program and what must be printed of it."""
-    kept = {path.name for path in (DATA / 'others').iterdir()}
-    if kept != OTHERS.keys():
-        raise ValueError(f'other files in {DATA.name}/others: {sorted(kept)}')
-    for name, said in OTHERS.items():
-        file = (DATA / 'others' / name).read_bytes()
-        if file != (other_programs.DATA / name).read_bytes():
-            raise ValueError(f'{name} is not as it stands in other_programs')
-        lines = again(file)
-        if lines[-1] != said:
-            raise ValueError(f'{name}: the table says {said}, the second reader and writer {lines}')
-        yield f'others/{name}', lines
-
-
-def expected():
-    """Yields the name of each file and what `written_other` must print of it; the files and reports are as they must be."""
-    made = all_files()
-    kept = {path.name for path in DATA.glob('*.wav')}
-    if kept != {name for name, _, _ in made}:
-        raise ValueError(f'other files in {DATA.name}: {sorted(kept)}')
-    for name, record, sound in made:
+def check():
+    """Stops where a file is not what the second writer makes, or where a program reports something else of it."""
+    made = {name: (record, sound) for name, record, sound in all_files()}
+    for path in paths(WRITTEN):
+        record, sound = made[path.name]
         second_writer.check(record, sound)
-        file = (DATA / name).read_bytes()
-        if file != second_writer.write(record, sound, 65536):
-            raise ValueError(f'{name} is not what the second writer makes')
-        report = (DATA / name).with_suffix('.txt').read_text()
-        for meant, told in zip(facts(record, sound), said(report), strict=True):
-            if meant != told:
-                raise ValueError(f'{name}: it must be {meant}, the programs say {told}')
-        yield name, [f'bytes {len(file)} mixed {mixed(file)}', 'same bytes']
-    yield from others()
-
-
-def main(words):
-    if words == ['--write']:
-        for name, record, sound in all_files():
-            (DATA / name).write_bytes(second_writer.write(record, sound, 65536))
-    elif words:
-        sys.exit(__doc__)
-    else:
-        for name, lines in expected():
-            print(name, *lines, sep='\n')
+        if path.read_bytes() != second_writer.write(record, sound, 65536):
+            raise ValueError(f'{path.name} is not what the second writer makes')
+        meant, found = dict(facts(record, sound)), dict(said(path.with_suffix('.txt').read_text()))
+        if meant != found:
+            raise ValueError(f'{path.name}: it must be {meant}, the programs report {found}')
 
 
 if __name__ == '__main__':
-    main(sys.argv[1:])
+    for name, record, sound in all_files():
+        (WRITTEN / name).write_bytes(second_writer.write(record, sound, 65536))

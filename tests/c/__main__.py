@@ -1,0 +1,172 @@
+#!/usr/bin/env python3
+"""Asks the library through its C interface about files of other programs, and about generated ones.
+
+    python3 -m c [COUNT [SEED]]     in tests/, after tests/c/run, which runs it too; COUNT files are generated
+
+Each answer must be what the second implementations in Python say; and, of the files of tests/data, what sox, ffmpeg
+and libsndfile report of them, hear in them or make of them.
+"""
+import sys
+
+from c.request import WORDS, Library
+from c.story import the_story
+from data import others, written_files
+from data.others import CODED, HEARD, NOT_HEARD, REPORTED, WRITTEN
+from data.songs import LIMIT, NUMBER, listed_after, onto
+from second import reader as second_reader, side as second_side
+from trying import empty_for, expect, report
+from vectors import many_files, wave_files
+
+# Room past what is needed: all of the lent buffer is compared.
+MORE = 9
+
+# Files of reported/ that are read and written again, and how they come out.
+AGAIN = {
+    # The title is left out, and the average is worked out, where ffmpeg writes 16,000 whatever the format.
+    'ffmpeg-microsoft-stereo-title.wav': 'other bytes',
+    'sndfile-pcm16-mono-cues.wav': 'same bytes',
+    # The title stands after sound of an odd length.
+    'sndfile-pcm8-mono-odd-title-after.wav': 'other bytes',
+    # sox rounds the average up.
+    'sox-ima-mono-empty.wav': 'other bytes',
+    'sox-rifx-refused.wav': 2,
+}
+
+
+def form_of(file):
+    """Channels, align, samples per block and sound of a file, by its chunks, whatever its fact count."""
+    found = second_reader.walk(file)
+    _, channels, _, _, align, samples = second_reader.layout(found[b'fmt '][1])
+    return channels, align, samples, found[b'data'][1]
+
+
+# ---- what other programs code and hear
+
+def coded(library):
+    """The blocks of each sound of coded/ are libsndfile's."""
+    for path in others.paths(CODED):
+        sound = path.with_suffix('.raw').read_bytes()
+        channels, align, _, blocks = form_of(path.read_bytes())
+        made = library.ask(path.name, 'encode', len(blocks) + MORE, sound, channels, align)
+        expect(f'{path.name}, whether the blocks are libsndfile\'s', made.buffer[:made.n] == blocks, True)
+        short = library.ask(f'{path.name} and a byte too few', 'encode', len(blocks) - 1, sound, channels, align)
+        expect(f'{path.name} and a byte too few', short.refusal, 14)
+
+
+def heard(library):
+    """The sound of each file of heard/ is what another program hears, whole and block by block."""
+    for path in others.paths(HEARD):
+        file = path.read_bytes()
+        if path.name in NOT_HEARD:
+            for name, *words in (('decode', 4096, file), ('decode_block', 4096, file, 0)):
+                refusal = library.ask(path.name, name, *words).refusal
+                expect(f'{path.name}: {name}, by hand', refusal, NOT_HEARD[path.name])
+            continue
+        sound = path.with_suffix('.heard').read_bytes()
+        channels, _, samples, _ = form_of(file)
+        whole = library.ask(path.name, 'decode', len(sound) // 2 + MORE, file)
+        expect(f'{path.name}, whether it is as heard', whole.buffer[:len(sound)] == sound, True)
+        expect(f'{path.name}, its frames', 2 * channels * whole.n, len(sound))
+        by_blocks(library, path.name, file, [] if samples == 1 else parts_of(sound, 2 * channels * samples))
+
+
+def parts_of(sound, size):
+    """A sound in parts of so many bytes; the last may be shorter."""
+    return [sound[at:at + size] for at in range(0, len(sound), size)]
+
+
+def by_blocks(library, name, file, parts):
+    """Each block of a file is heard as its part of the sound; the fill of the last is not heard. Then there is none."""
+    channels, _, samples, _ = form_of(file)
+    for block, part in enumerate(parts):
+        made = library.ask(f'{name}, block {block}', 'decode_block', channels * samples + MORE, file, block)
+        expect(f'{name}, whether block {block} is as heard', (made.n, made.buffer[:len(part)] == part), (samples, True))
+    none = library.ask(f'{name}, no block', 'decode_block', 4096, file, len(parts))
+    expect(f'{name}, no block {len(parts)}', none.refusal, 20)
+
+
+# ---- files written again, and songs
+
+def again(library, label, file):
+    """What is written of a file that was read: its bytes, or the refusal of reading."""
+    record, sound = library.ask(label, 'read', WORDS + MORE, file), library.ask(label, 'sound', 2, file)
+    if record.refusal:
+        return record.refusal
+    start = int.from_bytes(sound.buffer[:8], 'little')
+    made = library.ask(label, 'write', len(file) + MORE, record.buffer[:4 * WORDS], file[start:start + sound.n])
+    return made.buffer[:made.n]
+
+
+def written(library):
+    """The files of written/ come out as they stand, and those that other programs made as it is said above."""
+    written_files.check()
+    for label, file in others.files_in(WRITTEN).items():
+        expect(f'{label}, whether it comes out as it stands', again(library, label, file) == file, True)
+    for name, said in AGAIN.items():
+        file = (REPORTED / name).read_bytes()
+        made = again(library, name, file)
+        expect(f'{name}, written again', made if isinstance(made, int) else
+               'same bytes' if made == file else 'other bytes', said)
+
+
+def added(library, label, file):
+    """The new side of a file that is added to an empty one of its format, or the refusal; it is not added twice."""
+    room = len(file) + 60 + MORE
+    made = library.ask(label, 'add', room, empty_for(file), file, NUMBER, LIMIT)
+    if made.refusal:
+        return made.refusal
+    twice = library.ask(f'{label} once more', 'add', room, made.buffer[:made.n], file, NUMBER, LIMIT)
+    expect(f'{label} once more', twice.refusal, 18)
+    return made.buffer[:made.n]
+
+
+def songs(library):
+    """The new side has what the program that made a song reports of it, or what sox hears in it."""
+    for name, listing in others.listings():
+        made = added(library, name, (REPORTED / name).read_bytes())
+        lines = [f'refused {made}'] if isinstance(made, int) else second_reader.listing(made)[0]
+        expect(f'{name} on an empty side', lines, listed_after(listing))
+    for path in others.paths(HEARD):
+        made = added(library, path.name, path.read_bytes())
+        if '-pcm16-' in path.name:
+            expect(f'{path.name}, whether it is on the side as heard',
+                   [song.sound for song in second_side.songs(made)] == [path.with_suffix('.heard').read_bytes()], True)
+    for label, side, song in onto():
+        library.ask(label, 'add', len(side) + len(song), side, song, NUMBER, LIMIT)
+
+
+# ---- all files
+
+def all_calls(library, label, file):
+    """Whatever a file is: it is read, written again, decoded whole and by its last block, and added."""
+    again(library, label, file)
+    added(library, label, file)
+    try:
+        (_, channels, _, _, align, samples), frames, _, _, _, sound = second_reader.read(file)
+    except second_reader.Refused:
+        channels, align, samples, frames, sound = 1, 1, 1, 1, b''
+    library.ask(label, 'decode', channels * frames + MORE, file)
+    library.ask(label, 'decode_block', channels * samples + MORE, file, max(len(sound) // align, 1) - 1)
+
+
+def generated(library, count, seed):
+    """All files of tests/data, those at the borders of the rules for reading, and generated ones."""
+    for label, file in others.files_in(REPORTED, HEARD, CODED, WRITTEN).items():
+        all_calls(library, label, file)
+    for label, file, _ in wave_files.all_files():
+        all_calls(library, label, file)
+    for place, file in enumerate(many_files.files(count, seed)):
+        all_calls(library, f'generated file {place}', file)
+
+
+def main(count=2000, seed=1):
+    with Library() as library:
+        for part in (coded, heard, written, songs, the_story):
+            part(library)
+        generated(library, int(count), int(seed))
+        expect('the refusals that were met', sorted(library.met), list(range(21)))
+    return report('tests/c')
+
+
+if __name__ == '__main__':
+    sys.exit(main(*sys.argv[1:3]))

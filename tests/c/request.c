@@ -1,0 +1,146 @@
+/* Calls the functions of tronalhet.h as standard input asks: tests/c/request.py sends the requests and reads
+ * the answers.
+ *
+ * A request is a `struct request` and then the bytes of its two inputs; an answer is a `struct answer` and then
+ * the lent buffer, all of it. The buffer is filled with one value before the call, and so are the bytes on
+ * both sides of it. All numbers are little-endian, as on x86-64, for which the library is built. */
+#include "tronalhet.h"
+
+#include <stdbool.h>
+#include <stdio.h>
+#include <stdlib.h>
+#include <string.h>
+
+enum operation { READ = 1, SOUND, WRITE, DECODE, DECODE_BLOCK, ENCODE, ADD };
+enum { FILL = 0xA5, BESIDE = 64 };
+
+struct request {
+    uint32_t operation;
+    uint32_t numbers[2];
+    uint32_t room;     /* elements of the lent buffer */
+    uint32_t bytes[2]; /* of the inputs */
+};
+
+struct answer {
+    uint32_t refusal;
+    uint32_t left;
+    uint32_t right;
+    uint32_t kept; /* 1 where the bytes beside the lent buffer are as they were */
+    uint64_t n;
+};
+
+static void stop(const char *why)
+{
+    fprintf(stderr, "request: %s\n", why);
+    exit(1);
+}
+
+/* Memory for so many bytes. */
+static uint8_t *memory(size_t bytes)
+{
+    uint8_t *made = malloc(bytes + 1);
+    if (made == NULL)
+        stop("no memory");
+    return made;
+}
+
+/* The next bytes of standard input. */
+static uint8_t *input(size_t bytes)
+{
+    uint8_t *made = memory(bytes);
+    if (fread(made, 1, bytes, stdin) != bytes)
+        stop("a request is cut off");
+    return made;
+}
+
+/* The bytes of an element of the buffer that an operation is lent. */
+static size_t element(uint32_t operation)
+{
+    switch (operation) {
+    case READ:
+        return sizeof(uint32_t);
+    case SOUND:
+        return sizeof(size_t);
+    case DECODE:
+    case DECODE_BLOCK:
+        return sizeof(int16_t);
+    default:
+        return 1;
+    }
+}
+
+static struct answer plain(tronalhet_answer made)
+{
+    return (struct answer){.refusal = made.refusal, .n = made.n};
+}
+
+static struct answer coded(tronalhet_coded made)
+{
+    return (struct answer){.refusal = made.refusal, .left = made.left, .right = made.right, .n = made.n};
+}
+
+/* Makes the call that a request asks for. */
+static struct answer call(const struct request *asked, const void *first, const void *second, void *out)
+{
+    const uint32_t *numbers = asked->numbers;
+    const uint32_t *bytes = asked->bytes;
+    size_t room = asked->room;
+    switch (asked->operation) {
+    case READ:
+        return (struct answer){.refusal = tronalhet_read(first, bytes[0], out, room)};
+    case SOUND:
+        return plain(tronalhet_sound(first, bytes[0], out, room));
+    case WRITE:
+        return plain(tronalhet_write(first, bytes[0] / sizeof(uint32_t), second, bytes[1], out, room));
+    case DECODE:
+        return plain(tronalhet_decode(first, bytes[0], out, room));
+    case DECODE_BLOCK:
+        return plain(tronalhet_decode_block(first, bytes[0], numbers[0], out, room));
+    case ENCODE:
+        return coded(tronalhet_encode(first, bytes[0] / sizeof(int16_t), (uint16_t)numbers[0],
+                                      (uint16_t)numbers[1], out, room));
+    case ADD:
+        return plain(tronalhet_add(first, bytes[0], second, bytes[1], numbers[0], numbers[1], out, room));
+    default:
+        stop("no such operation");
+        return (struct answer){0};
+    }
+}
+
+static bool is_filled(const uint8_t *from, size_t bytes)
+{
+    for (size_t i = 0; i < bytes; i++) {
+        if (from[i] != FILL)
+            return false;
+    }
+    return true;
+}
+
+/* Makes the call into a buffer of so many bytes, and sends the answer. */
+static void answer(const struct request *asked, const void *first, const void *second, size_t bytes)
+{
+    uint8_t *held = memory(BESIDE + bytes + BESIDE);
+    memset(held, FILL, BESIDE + bytes + BESIDE);
+    struct answer made = call(asked, first, second, held + BESIDE);
+    made.kept = is_filled(held, BESIDE) && is_filled(held + BESIDE + bytes, BESIDE);
+    if (fwrite(&made, sizeof made, 1, stdout) != 1 || fwrite(held + BESIDE, 1, bytes, stdout) != bytes ||
+        fflush(stdout) != 0)
+        stop("an answer cannot be sent");
+    free(held);
+}
+
+int main(void)
+{
+    struct request asked;
+    size_t got;
+    while ((got = fread(&asked, 1, sizeof asked, stdin)) == sizeof asked) {
+        uint8_t *first = input(asked.bytes[0]);
+        uint8_t *second = input(asked.bytes[1]);
+        answer(&asked, first, second, asked.room * element(asked.operation));
+        free(first);
+        free(second);
+    }
+    if (got != 0)
+        stop("a request is cut off");
+    return 0;
+}

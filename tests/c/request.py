@@ -1,0 +1,151 @@
+"""The library through its C interface: target/c/request, which tests/c/run builds, makes one call after the other.
+
+`Library.ask` makes a call, and holds its answer against what the second implementations in Python say.
+"""
+import struct
+import subprocess
+from collections import namedtuple
+
+from programs.running import EMULATOR
+from second import (ima as second_ima, reader as second_reader, side as second_side, sound as second_sound,
+                    writer as second_writer)
+from second.reader import Refused, demand
+from second.writer import Record
+from trying import ROOT, expect
+
+PROGRAM = ROOT / 'target' / 'c' / 'request'
+WORDS, FILL = 393, b'\xa5'
+
+# The refusal, 0 where there is none, and the other numbers of a call; whether the bytes beside the lent buffer are as
+# they were; and all of the buffer after the call.
+Answer = namedtuple('Answer', 'refusal n left right kept buffer')
+
+
+# ---- values as they travel
+
+def samples_of(sound):
+    """16-bit PCM as samples."""
+    return struct.unpack(f'<{len(sound) // 2}h', sound)
+
+
+def pcm16(samples):
+    """Samples as 16-bit PCM."""
+    return struct.pack(f'<{len(samples)}h', *samples)
+
+
+def words_of(form, frames, cues, plays):
+    """A record as words; the room past the two counts is zero."""
+    tables = [[number for entry in table for number in entry] for table in (cues, plays)]
+    padded = [number for table in tables for number in table + [0] * (192 - len(table))]
+    return struct.pack(f'<{WORDS}I', *form, frames, len(cues), len(plays), *padded)
+
+
+def record_of(words):
+    """The record that words are."""
+    numbers = struct.unpack(f'<{WORDS}I', words)
+    cues, plays = ([numbers[at:at + 3] for at in range(start, start + 192, 3)] for start in (9, 201))
+    return Record(numbers[:6], numbers[6], numbers[7], cues, numbers[8], plays)
+
+
+# ---- the second implementations: each gives what stands at the start of the lent buffer, and the numbers of the answer
+
+def read(room, file):
+    form, frames, cues, plays, _, _ = second_reader.read(file)
+    demand(room >= WORDS, 14)
+    return words_of(form, frames, cues, plays), 0
+
+
+def sound(room, file):
+    start, part = second_reader.read(file)[4:]
+    demand(room >= 1, 14)
+    return struct.pack('<Q', start), len(part)
+
+
+def new_file(kind, made):
+    """A file that a second implementation has written, or its refusal."""
+    demand(kind == 'bytes', made)
+    return made, len(made)
+
+
+def write(room, record, part):
+    return new_file(*second_side.answer(second_writer.write(record_of(record), part, room)))
+
+
+def decode(room, file):
+    frames, samples = second_sound.decode(file, room)
+    return pcm16(samples), frames
+
+
+def decode_block(room, file, block):
+    frames, samples = second_sound.decode_block(file, block, room)
+    return pcm16(samples), frames
+
+
+def encode(room, part, channels, align):
+    blocks, left, right = second_ima.encode(samples_of(part), channels, align, room)
+    return blocks, len(blocks), left, right
+
+
+def add(room, side, song, number, limit):
+    return new_file(*second_side.check(side, song, number, limit, room))
+
+
+# Of each call its number in request.c, the bytes of an element of the buffer that it is lent, and the second way.
+CALLS = {'read': (1, 4, read), 'sound': (2, 8, sound), 'write': (3, 1, write), 'decode': (4, 2, decode),
+         'decode_block': (5, 2, decode_block), 'encode': (6, 1, encode), 'add': (7, 1, add)}
+
+
+def second_answer(name, room, *words):
+    """What the second implementations say of a call."""
+    _, element, work = CALLS[name]
+    try:
+        made, n, *chased = work(room, *words)
+    except Refused as refusal:
+        return Answer(refusal.args[0], 0, 0, 0, True, FILL * (room * element))
+    left, right = chased or (0, 0)
+    return Answer(0, n, left, right, True, made + FILL * (room * element - len(made)))
+
+
+def first_difference(found, wanted):
+    """The first place where two buffers differ; None where they are the same."""
+    return None if found == wanted else next(at for at, pair in enumerate(zip(found, wanted)) if pair[0] != pair[1])
+
+
+class Library:
+    """The library, as long as the program runs that calls it; `met` are the refusals that it has given."""
+
+    def __enter__(self):
+        self.program = subprocess.Popen([*EMULATOR, PROGRAM], stdin=subprocess.PIPE, stdout=subprocess.PIPE)
+        self.met = set()
+        return self
+
+    def __exit__(self, *_):
+        self.program.stdin.close()
+        expect('how target/c/request ends', self.program.wait(timeout=60), 0)
+        self.program.stdout.close()
+
+    def taken(self, size):
+        """The next bytes that the program sends."""
+        found = self.program.stdout.read(size)
+        if len(found) != size:
+            raise EOFError('target/c/request ended before its answer')
+        return found
+
+    def call(self, name, room, *words):
+        """A call with room for so many elements; of its other words, files and sounds are bytes, the rest numbers."""
+        operation, element, _ = CALLS[name]
+        first, second = ([word for word in words if isinstance(word, bytes)] + [b''])[:2]
+        numbers = ([word for word in words if isinstance(word, int)] + [0, 0])[:2]
+        head = struct.pack('<6I', operation, *numbers, room, len(first), len(second))
+        self.program.stdin.write(head + first + second)
+        self.program.stdin.flush()
+        refusal, left, right, kept, n = struct.unpack('<4IQ', self.taken(24))
+        return Answer(refusal, n, left, right, kept == 1, self.taken(room * element))
+
+    def ask(self, label, name, room, *words):
+        """The answer of a call, which must be what the second implementations say."""
+        found, wanted = self.call(name, room, *words), second_answer(name, room, *words)
+        expect(f'{label}: {name}', found[:-1], wanted[:-1])
+        expect(f'{label}: {name}, the first byte that is wrong', first_difference(found.buffer, wanted.buffer), None)
+        self.met.add(found.refusal)
+        return found

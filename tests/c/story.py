@@ -1,0 +1,109 @@
+"""The story of the song that fell off, as it must go: a song comes twice over a bad line, is put on the side once, and
+the song after it keeps its place. Then the other refusals of adding, each on a side that stays as it is, and at last a
+side of 64 songs.
+
+Beside each song stands what must come of it, worked out by hand from document 01: a refusal's number, or the bytes of
+the new side. The files are made by the second writer.
+"""
+from c.request import words_of
+from second import side as second_side, writer as second_writer
+from second.writer import Record
+from trying import expect
+from vectors.side_files import size
+
+ROOM = 8192
+FORM = 1, 1, 8000, 16, 2, 1
+TUNE = bytes(7 * place % 256 for place in range(512))
+
+
+def part(start, frames):
+    """So many frames of the tune from a byte on."""
+    return TUNE[start:start + 2 * frames]
+
+
+def song(start, frames, rate=8000):
+    """A song that is a part of the tune."""
+    return second_writer.write(Record((1, 1, rate, 16, 2, 1), frames, 0, [], 0, []), part(start, frames), ROOM)
+
+
+class Story:
+    """A side, and the songs that are sent to it."""
+
+    def __init__(self, library, side):
+        self.library, self.side = library, side
+
+    def send(self, said, file, number, limit, room=ROOM):
+        """Sends a song; the side stays as it is where the song is refused."""
+        label = f'song {number} of the story'
+        answer = self.library.ask(label, 'add', room, self.side, file, number, limit)
+        expect(f'{label}, by hand', answer.refusal or answer.n, said)
+        if answer.refusal == 0:
+            self.side = answer.buffer[:answer.n]
+
+    def has(self, *songs):
+        """The side has these songs, each a number, the byte of the tune where it starts, and its frames."""
+        places = [sum(frames for _, _, frames in songs[:turn]) for turn in range(len(songs))]
+        cues = [(number, place, place) for (number, _, _), place in zip(songs, places)]
+        record = words_of(FORM, sum(frames for _, _, frames in songs), cues,
+                          [(number, frames, 1) for number, _, frames in songs])
+        label = f'the side of {len(songs)} songs in the story'
+        expect(label, self.library.ask(label, 'read', 393, self.side).buffer, record)
+        sound = self.library.ask(label, 'sound', 1, self.side)
+        place = int.from_bytes(sound.buffer, 'little')
+        expect(f'{label}, its sound', self.side[place:place + sound.n],
+               b''.join(part(start, frames) for _, start, frames in songs))
+
+
+def three_songs(library):
+    """With the second song twice there would be 80 frames, and no place for the third one."""
+    story = Story(library, second_side.empty(1, 8000)[1])
+    story.send(size(1, 20), song(0, 20), 101, 80)
+    story.send(size(2, 50), song(50, 30), 102, 80)
+    story.send(18, song(50, 30), 102, 80)
+    story.send(size(3, 75), song(100, 25), 103, 80)
+    story.has((101, 0, 20), (102, 50, 30), (103, 100, 25))
+    return story
+
+
+def at_the_limit(story):
+    """A song of 6 frames where there is place for 5; then place for 6, without and with room for the new file."""
+    story.send(17, song(150, 6), 104, 80)
+    story.send(14, song(150, 6), 104, 81, size(4, 81) - 1)
+    story.send(size(4, 81), song(150, 6), 104, 81, size(4, 81))
+    story.has((101, 0, 20), (102, 50, 30), (103, 100, 25), (104, 150, 6))
+
+
+def unlike_songs(story):
+    """Songs that do not fit: a listed number with other sound, as long and shorter; no frame; another rate; no song."""
+    story.send(16, song(1, 20), 101, 1000)
+    story.send(16, song(0, 10), 101, 1000)
+    story.send(16, song(0, 0), 105, 1000)
+    story.send(9, song(200, 10, 11025), 105, 1000)
+    story.send(3, song(200, 10)[:-1], 105, 1000)
+    story.has((101, 0, 20), (102, 50, 30), (103, 100, 25), (104, 150, 6))
+
+
+def no_side(library):
+    """A song is no side."""
+    Story(library, song(0, 20)).send(19, song(200, 10), 105, 1000)
+
+
+def full_side(library):
+    """Each song has as many frames as its number says; the first n numbers add up to n x (n + 1) / 2. On a full side no
+    song has place; one that is listed needs none."""
+    story = Story(library, second_side.empty(1, 8000)[1])
+    for number in range(1, 65):
+        story.send(size(number, number * (number + 1) // 2), song(number, number), number, 10000)
+    story.has(*[(number, number, number) for number in range(1, 65)])
+    story.send(17, song(65, 1), 65, 10000)
+    story.send(18, song(1, 1), 1, 10000)
+    story.send(18, song(64, 64), 64, 10000)
+
+
+def the_story(library):
+    """All of it."""
+    story = three_songs(library)
+    at_the_limit(story)
+    unlike_songs(story)
+    no_side(library)
+    full_side(library)
