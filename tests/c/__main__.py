@@ -164,7 +164,9 @@ def main(count=2000, seed=1):
         for part in (coded, heard, written, songs, the_story):
             part(library)
         generated(library, int(count), int(seed))
-        expect('the refusals that were met', sorted(library.met), list(range(21)))
+        expect('the refusals that were met, and 0', sorted(library.answers), list(range(21)))
+    print(f'request: {sum(library.answers.values())} answers, {library.answers[0]} accepted, refused',
+          *(f'{number}: {count}' for number, count in sorted(library.answers.items()) if number))
     return report('tests/c')
 
 

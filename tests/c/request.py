@@ -4,7 +4,7 @@
 """
 import struct
 import subprocess
-from collections import namedtuple
+from collections import Counter, namedtuple
 
 from programs.running import EMULATOR
 from second import (ima as second_ima, reader as second_reader, side as second_side, sound as second_sound,
@@ -112,11 +112,11 @@ def first_difference(found, wanted):
 
 
 class Library:
-    """The library, as long as the program runs that calls it; `met` are the refusals that it has given."""
+    """The library, as long as the program runs that calls it; `answers` counts its answers by their refusals."""
 
     def __enter__(self):
         self.program = subprocess.Popen([*EMULATOR, PROGRAM], stdin=subprocess.PIPE, stdout=subprocess.PIPE)
-        self.met = set()
+        self.answers = Counter()
         return self
 
     def __exit__(self, *_):
@@ -147,5 +147,5 @@ class Library:
         found, wanted = self.call(name, room, *words), second_answer(name, room, *words)
         expect(f'{label}: {name}', found[:-1], wanted[:-1])
         expect(f'{label}: {name}, the first byte that is wrong', first_difference(found.buffer, wanted.buffer), None)
-        self.met.add(found.refusal)
+        self.answers[found.refusal] += 1
         return found
