@@ -14,7 +14,7 @@ from data import others, written_files
 from data.others import CODED, HEARD, NOT_HEARD, REPORTED, WRITTEN
 from data.songs import LIMIT, NUMBER, listed_after, onto
 from second import reader as second_reader, side as second_side
-from trying import empty_for, expect, report
+from trying import expect, report
 from vectors import many_files, wave_files
 
 # Room past what is needed: all of the lent buffer is compared.
@@ -109,10 +109,20 @@ def written(library):
                'same bytes' if made == file else 'other bytes', said)
 
 
+def empty_side(library, label, file):
+    """An empty side of a file's channels and rate, or of any where the file is refused."""
+    try:
+        _, channels, rate, _, _, _ = second_reader.read(file)[0]
+    except second_reader.Refused:
+        channels, rate = 1, 8000
+    made = library.ask(label, 'empty', 44 + MORE, channels, rate)
+    return made.buffer[:made.n]
+
+
 def added(library, label, file):
     """The new side of a file that is added to an empty one of its format, or the refusal; it is not added twice."""
     room = len(file) + 60 + MORE
-    made = library.ask(label, 'add', room, empty_for(file), file, NUMBER, LIMIT)
+    made = library.ask(label, 'add', room, empty_side(library, label, file), file, NUMBER, LIMIT)
     if made.refusal:
         return made.refusal
     twice = library.ask(f'{label} once more', 'add', room, made.buffer[:made.n], file, NUMBER, LIMIT)

@@ -11,7 +11,7 @@
 #include <stdlib.h>
 #include <string.h>
 
-enum operation { READ = 1, SOUND, WRITE, DECODE, DECODE_BLOCK, ENCODE, ADD };
+enum operation { READ = 1, SOUND, WRITE, DECODE, DECODE_BLOCK, ENCODE, ADD, EMPTY };
 enum { FILL = 0xA5, BESIDE = 64 };
 
 struct request {
@@ -101,6 +101,8 @@ static struct answer call(const struct request *asked, const void *first, const 
                                       (uint16_t)numbers[1], out, room));
     case ADD:
         return plain(tronalhet_add(first, bytes[0], second, bytes[1], numbers[0], numbers[1], out, room));
+    case EMPTY:
+        return plain(tronalhet_empty((uint16_t)numbers[0], numbers[1], out, room));
     default:
         stop("no such operation");
         return (struct answer){0};

@@ -90,9 +90,14 @@ def add(room, side, song, number, limit):
     return new_file(*second_side.check(side, song, number, limit, room))
 
 
+def empty(room, channels, rate):
+    return new_file(*second_side.empty(channels, rate, room))
+
+
 # Of each call its number in request.c, the bytes of an element of the buffer that it is lent, and the second way.
 CALLS = {'read': (1, 4, read), 'sound': (2, 8, sound), 'write': (3, 1, write), 'decode': (4, 2, decode),
-         'decode_block': (5, 2, decode_block), 'encode': (6, 1, encode), 'add': (7, 1, add)}
+         'decode_block': (5, 2, decode_block), 'encode': (6, 1, encode), 'add': (7, 1, add),
+         'empty': (8, 1, empty)}
 
 
 def second_answer(name, room, *words):
@@ -134,7 +139,7 @@ class Library:
     def call(self, name, room, *words):
         """A call with room for so many elements; of its other words, files and sounds are bytes, the rest numbers."""
         operation, element, _ = CALLS[name]
-        first, second = ([word for word in words if isinstance(word, bytes)] + [b''])[:2]
+        first, second = ([word for word in words if isinstance(word, bytes)] + [b'', b''])[:2]
         numbers = ([word for word in words if isinstance(word, int)] + [0, 0])[:2]
         head = struct.pack('<6I', operation, *numbers, room, len(first), len(second))
         self.program.stdin.write(head + first + second)

@@ -6,7 +6,7 @@ Beside each song stands what must come of it, worked out by hand from document 0
 the new side. The files are made by the second writer.
 """
 from c.request import words_of
-from second import side as second_side, writer as second_writer
+from second import writer as second_writer
 from second.writer import Record
 from trying import expect
 from vectors.side_files import size
@@ -27,10 +27,11 @@ def song(start, frames, rate=8000):
 
 
 class Story:
-    """A side, and the songs that are sent to it."""
+    """A side, an empty one where no other is given, and the songs that are sent to it."""
 
-    def __init__(self, library, side):
-        self.library, self.side = library, side
+    def __init__(self, library, side=None):
+        self.library = library
+        self.side = library.ask('the empty side of the story', 'empty', 44, 1, 8000).buffer if side is None else side
 
     def send(self, said, file, number, limit, room=ROOM):
         """Sends a song; the side stays as it is where the song is refused."""
@@ -56,7 +57,7 @@ class Story:
 
 def three_songs(library):
     """With the second song twice there would be 80 frames, and no place for the third one."""
-    story = Story(library, second_side.empty(1, 8000)[1])
+    story = Story(library)
     story.send(size(1, 20), song(0, 20), 101, 80)
     story.send(size(2, 50), song(50, 30), 102, 80)
     story.send(18, song(50, 30), 102, 80)
@@ -91,7 +92,7 @@ def no_side(library):
 def full_side(library):
     """Each song has as many frames as its number says; the first n numbers add up to n x (n + 1) / 2. On a full side no
     song has place; one that is listed needs none."""
-    story = Story(library, second_side.empty(1, 8000)[1])
+    story = Story(library)
     for number in range(1, 65):
         story.send(size(number, number * (number + 1) // 2), song(number, number), number, 10000)
     story.has(*[(number, number, number) for number in range(1, 65)])
