@@ -129,7 +129,7 @@ class Library:
         expect('how target/c/request ends', self.program.wait(timeout=60), 0)
         self.program.stdout.close()
 
-    def taken(self, size):
+    def received(self, size):
         """The next bytes that the program sends."""
         found = self.program.stdout.read(size)
         if len(found) != size:
@@ -144,8 +144,8 @@ class Library:
         head = struct.pack('<6I', operation, *numbers, room, len(first), len(second))
         self.program.stdin.write(head + first + second)
         self.program.stdin.flush()
-        refusal, left, right, kept, n = struct.unpack('<4IQ', self.taken(24))
-        return Answer(refusal, n, left, right, kept == 1, self.taken(room * element))
+        refusal, left, right, kept, n = struct.unpack('<4IQ', self.received(24))
+        return Answer(refusal, n, left, right, kept == 1, self.received(room * element))
 
     def ask(self, label, name, room, *words):
         """The answer of a call, which must be what the second implementations say."""
