@@ -58,9 +58,7 @@ def heard(library):
     for path in others.paths(HEARD):
         file = path.read_bytes()
         if path.name in NOT_HEARD:
-            for name, *words in (('decode', 4096, file), ('decode_block', 4096, file, 0)):
-                refusal = library.ask(path.name, name, *words).refusal
-                expect(f'{path.name}: {name}, by hand', refusal, NOT_HEARD[path.name])
+            not_heard(library, path.name, file)
             continue
         sound = path.with_suffix('.heard').read_bytes()
         channels, _, samples, _ = form_of(file)
@@ -68,6 +66,12 @@ def heard(library):
         expect(f'{path.name}, whether it is as heard', whole.buffer[:len(sound)] == sound, True)
         expect(f'{path.name}, its frames', 2 * channels * whole.n, len(sound))
         by_blocks(library, path.name, file, [] if samples == 1 else parts_of(sound, 2 * channels * samples))
+
+
+def not_heard(library, name, file):
+    """A file that is refused is so whole and by its first block."""
+    whole, block = library.ask(name, 'decode', 4096, file), library.ask(name, 'decode_block', 4096, file, 0)
+    expect(f'{name}, by hand', [whole.refusal, block.refusal], [NOT_HEARD[name]] * 2)
 
 
 def parts_of(sound, size):
@@ -98,15 +102,19 @@ def again(library, label, file):
 
 
 def written(library):
-    """The files of written/ come out as they stand, and those that other programs made as it is said above."""
+    """The files of written/ come out as they stand; the programs report of them what they must."""
     written_files.check()
     for label, file in others.files_in(WRITTEN).items():
         expect(f'{label}, whether it comes out as it stands', again(library, label, file) == file, True)
+
+
+def written_again(library):
+    """Files that other programs made come out as it is said above."""
     for name, said in AGAIN.items():
         file = (REPORTED / name).read_bytes()
         made = again(library, name, file)
-        expect(f'{name}, written again', made if isinstance(made, int) else
-               'same bytes' if made == file else 'other bytes', said)
+        expect(f'{name}, written again',
+               made if isinstance(made, int) else 'same bytes' if made == file else 'other bytes', said)
 
 
 def empty_side(library, label, file):
@@ -130,17 +138,25 @@ def added(library, label, file):
     return made.buffer[:made.n]
 
 
-def songs(library):
-    """The new side has what the program that made a song reports of it, or what sox hears in it."""
+def reported_songs(library):
+    """The new side has what the program that made a song reports of it."""
     for name, listing in others.listings():
         made = added(library, name, (REPORTED / name).read_bytes())
         lines = [f'refused {made}'] if isinstance(made, int) else second_reader.listing(made)[0]
         expect(f'{name} on an empty side', lines, listed_after(listing))
-    for path in others.paths(HEARD):
+
+
+def heard_songs(library):
+    """The new side has what sox hears in a song."""
+    for path in (path for path in others.paths(HEARD) if '-pcm16-' in path.name):
         made = added(library, path.name, path.read_bytes())
-        if '-pcm16-' in path.name:
-            expect(f'{path.name}, whether it is on the side as heard',
-                   [song.sound for song in second_side.songs(made)] == [path.with_suffix('.heard').read_bytes()], True)
+        sounds = [song.sound for song in second_side.songs(made)]
+        expect(f'{path.name}, whether it is on the side as heard', sounds == [path.with_suffix('.heard').read_bytes()],
+               True)
+
+
+def songs_on_sides(library):
+    """The sides of tests/data/songs.py, where the answers stand by hand."""
     for label, side, song in onto():
         library.ask(label, 'add', len(side) + len(song), side, song, NUMBER, LIMIT)
 
@@ -159,21 +175,19 @@ def all_calls(library, label, file):
     library.ask(label, 'decode_block', channels * samples + MORE, file, max(len(sound) // align, 1) - 1)
 
 
-def generated(library, count, seed):
-    """All files of tests/data, those at the borders of the rules for reading, and generated ones."""
-    for label, file in others.files_in(REPORTED, HEARD, CODED, WRITTEN).items():
-        all_calls(library, label, file)
-    for label, file, _ in wave_files.all_files():
-        all_calls(library, label, file)
-    for place, file in enumerate(many_files.files(count, seed)):
-        all_calls(library, f'generated file {place}', file)
+def all_files(count, seed):
+    """All files of tests/data, those at the borders of the rules for reading, and generated ones, each with a label."""
+    yield from others.files_in(REPORTED, HEARD, CODED, WRITTEN).items()
+    yield from ((label, file) for label, file, _ in wave_files.all_files())
+    yield from ((f'generated file {place}', file) for place, file in enumerate(many_files.files(count, seed)))
 
 
 def main(count=2000, seed=1):
     with Library() as library:
-        for part in (coded, heard, written, songs, the_story):
+        for part in (coded, heard, written, written_again, reported_songs, heard_songs, songs_on_sides, the_story):
             part(library)
-        generated(library, int(count), int(seed))
+        for label, file in all_files(int(count), int(seed)):
+            all_calls(library, label, file)
         expect('the refusals that were met, and 0', sorted(library.answers), list(range(21)))
     print(f'request: {sum(library.answers.values())} answers, {library.answers[0]} accepted, refused',
           *(f'{number}: {count}' for number, count in sorted(library.answers.items()) if number))

@@ -52,7 +52,8 @@ def microsoft_block(samples, channels, pair, delta=300):
     parts = [samples[channel::channels] for channel in range(channels)]
     coded = second_ima.in_turn([nibbles_of(part, pair, delta) for part in parts])
     header = [delta] * channels + [part[1] for part in parts] + [part[0] for part in parts]
-    return bytes([pair] * channels) + pcm16(header) + bytes(16 * high + low for high, low in zip(coded[::2], coded[1::2]))
+    nibbles = bytes(16 * high + low for high, low in zip(coded[::2], coded[1::2]))
+    return bytes([pair] * channels) + pcm16(header) + nibbles
 
 
 def microsoft_blocks(samples, channels, align):
@@ -159,7 +160,8 @@ def said(report):
         return tuple(int(one(rf'^ *{name} *: (\d+)', text)) for name in names)
 
     bits, encoding = one(r'^Sample Encoding: (\d+)-bit (.+)$', sox)
-    yield 'sox', (TAGS[encoding], *numbers(sox, 'Channels', 'Sample Rate'), int(bits), int(one(r'= (\d+) samples', sox)))
+    frames = int(one(r'= (\d+) samples', sox))
+    yield 'sox', (TAGS[encoding], *numbers(sox, 'Channels', 'Sample Rate'), int(bits), frames)
     encoding, *rest, _ = ffmpeg(parts['ffmpeg'])
     yield 'ffmpeg', (TAGS[encoding], *map(int, rest))
     top, bottom = library.split('-' * 40)

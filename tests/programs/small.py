@@ -62,6 +62,10 @@ def on_other_files():
                  answer(second_command.encode, file, align))
         does(label, ['side_add', 'side.wav', 'file.wav', 7, 1000000, 'new.wav'], files,
              answer(second_command.add, files['side.wav'], file, 7, 1000000))
+
+
+def on_kept_sides():
+    """The sides and songs of tests/data/songs.py."""
     for label, side, song in onto():
         does(label, ['side_add', 'side.wav', 'song.wav', 7, 1000000, 'new.wav'], {'side.wav': side, 'song.wav': song},
              answer(second_command.add, side, song, 7, 1000000))
@@ -134,15 +138,23 @@ def above_the_limit():
 
 # ---- words
 
-def words():
-    """Numbers at their borders and with zeros in front, and names like options."""
+def numbers():
+    """Numbers at their borders, and with zeros in front."""
     for number, limit in ((0, 1600), (2**32 - 1, 2**32 - 1), (7, 1599)):
         for given in ((number, limit), (f'000{number}', f'{limit:0100}')):
             does(f'song {number}, limit {limit}', ['side_add', 'side.wav', 'song.wav', *given, 'new.wav'], FILES,
                  answer(second_command.add, EMPTY, SONG, number, limit))
+
+
+def aligns():
+    """Each align of IMA at a border, and such as are none."""
     for align in (0, 7, 8, 12, 4096, 4100, 65535):
         does(f'align {align}', ['wave_encode', 'song.wav', 'new.wav', align], FILES,
              answer(second_command.encode, SONG, align))
+
+
+def names():
+    """Names like options, with blanks, and in a folder."""
     for name in ('--a new one', 'folder/new.wav'):
         does(name, ['wave_decode', '-a song', name], {'-a song': SONG}, answer(second_command.decode, SONG), name)
 
@@ -211,7 +223,7 @@ def full_disk():
 
 
 def main():
-    for part in (on_other_files, at_the_limit, sides_at_the_limit, above_the_limit, words, wrong_calls, wrong_numbers,
-                 not_read, not_made, full_disk):
+    for part in (on_other_files, on_kept_sides, at_the_limit, sides_at_the_limit, above_the_limit, numbers, aligns,
+                 names, wrong_calls, wrong_numbers, not_read, not_made, full_disk):
         part()
     return report('tests/programs')
