@@ -124,7 +124,8 @@ pub const COMMANDS: &[Command] = &[
 /// What is said below the commands, and below the options of each.
 pub const FILES: &str = "\
 A file may have 1,073,741,824 bytes. For a file that is read, - is standard input. A new file gets its name only
-when it is whole and on the disk. A refusal is reported by its number; standard error says what it means and where.
+when it is whole and on the disk, and takes the place of another only where that is SIDE, or with --replace.
+A refusal is reported by its number; standard error says what it means and where.
 ";
 pub const STATUS: &str = "\
 0 done, or nothing to do (18); 1 to 20 the number of the refusal; 64 a wrong call;
@@ -173,7 +174,7 @@ fn help() -> String {
     for command in COMMANDS {
         writeln!(help, "{}\n    {}", command.usage(), command.about).expect("a text can be written to");
     }
-    format!("{help}\ntronalhet help COMMAND says more of one.\n\n{FILES}\nExit status: {STATUS}")
+    format!("{help}\ntronalhet help COMMAND says more about one command.\n\n{FILES}\nExit status: {STATUS}")
 }
 
 /// A command with its words and options.
@@ -365,4 +366,73 @@ fn standard_input(command: &Command, call: &Call) -> Result<(), String> {
         return Err(format!("the new file must have a name, and - has none{hint}"));
     }
     Ok(())
+}
+
+#[cfg(test)]
+mod tests {
+    use super::*;
+
+    /// What is understood of words: the call, the text that is asked for, or what is wrong.
+    fn of(words: &[&str]) -> Result<Asked, String> {
+        asked(words.iter().map(OsString::from).collect()).map_err(|wrong| wrong.what)
+    }
+
+    fn call(words: &[&str]) -> Call {
+        match of(words) {
+            Ok(Asked::Run(call)) => call,
+            Ok(Asked::Text(text)) => panic!("{words:?} is answered by {text}"),
+            Err(what) => panic!("{words:?}: {what}"),
+        }
+    }
+
+    fn text(words: &[&str]) -> String {
+        match of(words) {
+            Ok(Asked::Text(text)) => text,
+            Ok(Asked::Run(_)) => panic!("{words:?} is run"),
+            Err(what) => panic!("{words:?}: {what}"),
+        }
+    }
+
+    fn wrong(words: &[&str]) -> String {
+        of(words).err().unwrap_or_else(|| panic!("{words:?} is not wrong"))
+    }
+
+    #[test]
+    fn a_flag_is_given_or_not() {
+        let plain = call(&["add", "side", "song", "--number", "7", "--limit=9"]);
+        assert!(!plain.flag("replace") && !plain.flag("backup") && !plain.json && plain.out.is_none());
+        let full =
+            call(&["add", "--backup", "side", "--replace", "--json", "song", "--number=7", "--limit=9", "--json"]);
+        assert!(full.flag("replace") && full.flag("backup") && full.json);
+        assert_eq!((full.words, full.numbers), (plain.words, plain.numbers));
+        assert!(call(&["check", "--sound", "a", "b"]).flag("sound"));
+        assert!(call(&["decode", "a", "b", "--replace"]).flag("replace"));
+        assert!(call(&["encode", "a", "b", "--replace"]).flag("replace"));
+    }
+
+    #[test]
+    fn a_flag_belongs_to_its_command_and_has_no_value() {
+        assert_eq!(wrong(&["list", "a", "--sound"]), "list has no option --sound");
+        assert_eq!(wrong(&["new-side", "a", "--replace"]), "new-side has no option --replace");
+        assert_eq!(wrong(&["check", "a", "--sound=yes"]), "--sound takes no value");
+        assert_eq!(call(&["check", "--", "--sound"]).words, ["--sound"]);
+    }
+
+    #[test]
+    fn help_is_of_all_commands_or_of_one() {
+        let all = text(&["help"]);
+        assert_eq!((&text(&["--help"]), &text(&["-h"])), (&all, &all));
+        for command in COMMANDS {
+            let one = text(&["help", command.name]);
+            assert!(all.contains(&command.usage()) && one.contains(&command.usage()) && one.contains(command.more));
+            assert_eq!(text(&[command.name, "--help"]), one);
+            assert!(command.options.iter().all(|choice| one.contains(&choice.usage()) && one.contains(choice.about)));
+        }
+        assert_eq!(wrong(&["help", "sing"]), "there is no command 'sing'");
+        assert_eq!(wrong(&["help", "add", "-"]), "'-' is one word too many");
+        assert_eq!(
+            wrong(&["encode", "a", "b", "--align", "-"]),
+            "--align must be a whole number from 0 to 65535, not '-'"
+        );
+    }
 }
