@@ -10,19 +10,22 @@ and memory and time have no bounds.
 """
 import sys
 
+from host.building import (built, built_again, changed_meanwhile, counted, handed_over, killed_build, not_built,
+                           own_words, playing, two_builds)
 from host.calls import called, called_wrongly, for_scripts, from_input, helps, names, no_numbers, slow_input
 from host.faults import block_places, other_refusals, placed, wrong_files, wrong_songs
 from host.files import checked, glanced, on_files, on_kept_sides, records
 from host.full_size import full_size
+from host.installed import compiled, completed, everything, installed_command, man_page, not_installed
 from host.run import PROGRAM, attempted
 from host.slips import (backups, closed_pipes, closed_streams, kept_twice, links_of_backups, names_on_one_line,
                         not_replaced, other_sounds, several_names)
 from host.together import elsewhere, many_decodes, stuck_songs, ten_adds, ten_sides, waits
 from host.trouble import (devices, hidden_folder, links, modes, new_names, no_memory, not_allowed, not_read, not_shown,
                           not_written, same_file, shared, special_files)
+from host.wave import by_wave, demonstration, readme, story
+from host.writing import flushed, full_disk, living_parts, no_parts, past_a_limit, really_full_disk
 from trying import expect, report
-from host.wave import built_again, by_wave, demonstration, readme, wave_refuses
-from host.writing import flushed, full_disk, past_a_limit, living_parts, no_parts, really_full_disk
 
 PARTS = (on_files, on_kept_sides, records, checked, glanced, placed, block_places, wrong_files, wrong_songs,
          other_refusals, names, for_scripts, from_input, slow_input, called_wrongly, no_numbers, called, helps,
@@ -30,7 +33,9 @@ PARTS = (on_files, on_kept_sides, records, checked, glanced, placed, block_place
          hidden_folder, not_shown, no_memory, full_disk, really_full_disk, past_a_limit, living_parts, no_parts,
          flushed, not_replaced, other_sounds, backups, kept_twice, links_of_backups, several_names, closed_streams,
          closed_pipes, names_on_one_line, stuck_songs, waits, elsewhere, ten_adds, ten_sides, many_decodes,
-         by_wave, wave_refuses, demonstration, built_again, readme, full_size)
+         handed_over, own_words, playing, built, built_again, changed_meanwhile, not_built, counted, two_builds,
+         killed_build, everything, not_installed, installed_command, compiled, man_page, completed, by_wave, story,
+         demonstration, readme, full_size)
 
 
 def main():
