@@ -55,7 +55,10 @@ wave_c: units wave
 side_add: wave show
 '''
 NEEDED = ['little', 'samples', 'units', 'wave']
-SOURCES = ['crates/units/src/lib.rt', 'crates.txt', 'include/tronalhet.h', 'host/src/main.rs']
+# What the library is made of, and other sources.
+LIBRARY = [*(f'crates/{name}/src/lib.rt' for name in (*NEEDED, 'wave_c')), 'crates.txt']
+OTHERS = ['crates/units/must-fail/zero.edit', 'crates/show/src/lib.rt', 'crates/side_add/data/x', 'include/tronalhet.h',
+          'host/src/main.rs']
 
 
 def put_script(path, text):
@@ -69,7 +72,7 @@ def clone():
     """A folder with ./wave, host/build and sources that are five minutes old; nothing is built."""
     with tempfile.TemporaryDirectory() as name:
         folder = pathlib.Path(name)
-        for path in (folder / 'bin/told', *(folder / source for source in SOURCES)):
+        for path in (folder / 'bin/told', *(folder / source for source in LIBRARY + OTHERS)):
             path.parent.mkdir(parents=True, exist_ok=True)
             path.touch()
         for name, text in TOOLS.items():
@@ -186,15 +189,15 @@ def built_again():
     """Where a source is newer, what rests on it is built before the command is run; a folder is a source too."""
     with clone() as folder:
         run([folder / 'wave', 'x'], '/', env=around(folder))
-        for source in (*SOURCES, 'crates/units', 'host/src'):
+        for source in (*LIBRARY, *OTHERS, 'crates/units/src', 'host/src'):
             dated(folder, 300)
             dated(folder, 200, 'target/staticlib/libwave_c.a', 'target/host/release/tronalhet')
             dated(folder, 100, source)
             done(folder)
             status, shown, _ = run([folder / 'wave', 'x'], '/', env=around(folder))
-            wanted = PROVED + BUILT if source.startswith('crates') else BUILT
+            wanted = PROVED + BUILT if source in (*LIBRARY, 'crates/units/src') else BUILT
             expect(f'a newer {source}', (status, shown, done(folder)), (0, told(['x']), wanted))
-            expect(f'after {source}', (run([folder / 'wave', 'x'], '/', env=around(folder))[2], done(folder)), ('', []))
+        expect('with nothing newer', (run([folder / 'wave', 'x'], '/', env=around(folder))[2], done(folder)), ('', []))
 
 
 def changed_meanwhile():

@@ -16,6 +16,7 @@ from trying import ROOT, SONG, expect, kept, printed, put, run
 from second import reader as second_reader
 
 WAVE = [ROOT / 'wave']
+VERSION = re.search('^version = "(.*)"', (ROOT / 'host/Cargo.toml').read_text(), re.M).group(1)
 COMMAND = ['bin/tronalhet'] if NATIVE else ['libexec/tronalhet', 'bin/tronalhet']
 PLACES = [*COMMAND, 'lib/libtronalhet.a', 'include/tronalhet.h', 'lib/pkgconfig/tronalhet.pc',
           'share/man/man1/tronalhet.1', 'share/bash-completion/completions/tronalhet']
@@ -66,21 +67,14 @@ def installed_command():
     with installed() as (folder, _):
         put(folder / '-a song.wav', SONG)
         put(folder / 'link', 'a prefix/bin/tronalhet')
-        version = re.search('^version = "(.*)"', (ROOT / 'host/Cargo.toml').read_text(), re.M).group(1)
         for command in ('a prefix/bin/tronalhet', folder / 'a prefix/bin/tronalhet', './link'):
-            expect(f'{command} --version', run([command, '--version'], folder), (0, f'tronalhet {version}\n', ''))
+            expect(f'{command} --version', run([command, '--version'], folder), (0, f'tronalhet {VERSION}\n', ''))
             expect(f'{command} list', run([command, 'list', '--', '-a song.wav'], folder),
                    (0, printed(second_reader.listing(SONG)[0]), ''))
         expect('its status', run(['a prefix/bin/tronalhet', 'sing'], folder)[0], 64)
 
 
 # ---- the library for C
-
-PROGRAM = '''#include <stdio.h>
-#include <tronalhet.h>
-int main(void) { return printf("%u\\n", (unsigned)tronalhet_read(0, 0, 0, 0)) < 0; }
-'''
-
 
 def flags_of(prefix):
     """What pkg-config says of the library; where there is none, the same from its file by hand."""
@@ -97,13 +91,19 @@ def flags_of(prefix):
 
 
 def compiled():
-    """A program in C is built by what pkg-config says, and calls the library."""
+    """The example in C is built by what pkg-config says, and calls the library. All say the same version."""
     compiler, emulator = (['gcc'], []) if NATIVE else (['x86_64-linux-gnu-gcc', '-static'], ['qemu-x86_64'])
     with installed() as (folder, _):
-        put(folder / 'program.c', PROGRAM.encode())
-        words = [*compiler, '-o', 'program', 'program.c', *flags_of(folder / 'a prefix')]
+        put(folder / 'song.wav', SONG)
+        words = [*compiler, '-o', 'side', ROOT / 'examples/side.c', *flags_of(folder / 'a prefix')]
         expect('the compiler', run(words, folder), (0, '', ''))
-        expect('a file of no bytes by the library', run([*emulator, './program'], folder), (0, '1\n', ''))
+        expect('the example', run([*emulator, './side', 'song.wav'], folder),
+               (0, 'song 1 at frame 0, 1600 frames\n', ''))
+        header = (folder / 'a prefix/include/tronalhet.h').read_text()
+        file = (folder / 'a prefix/lib/pkgconfig/tronalhet.pc').read_text()
+        versions = [*re.findall('_VERSION "(.*)"', header), *re.findall('^Version: (.*)', file, re.M),
+                    '.'.join(re.findall(r'_VERSION_\w+ (\d+)', header))]
+        expect('the versions', versions, [VERSION] * 3)
 
 
 # ---- what is made from the table of commands
