@@ -101,10 +101,10 @@ fn place_for(to: &OsStr, from: &OsStr, replace: bool) -> Result<Target, Stop> {
 }
 
 /// Writes a file. What it takes the place of may have other names, and may be kept under a name of its own.
-fn write(target: &Target, to: &OsStr, made: &[u8], backup: bool, told: Told) -> Answer {
+fn write(target: &Target, to: &OsStr, made: &[u8], backup: bool, mut told: Told) -> Answer {
     let others = target.other_names();
     let kept = target.write(made, backup)?;
-    let mut told = told.with("out", text(to));
+    told.fields.insert(0, ("out", text(to)));
     if let Some(kept) = kept {
         told = told.with("backup", text(kept.as_os_str()));
     }

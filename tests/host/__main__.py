@@ -12,7 +12,7 @@ import sys
 
 from host.building import (built, built_again, changed_meanwhile, counted, handed_over, killed_build, not_built,
                            own_words, playing, two_builds)
-from host.calls import called, called_wrongly, for_scripts, from_input, helps, names, no_numbers, slow_input
+from host.calls import called, called_wrongly, for_scripts, from_input, helps, json_page, names, no_numbers, slow_input
 from host.faults import block_places, other_refusals, placed, wrong_files, wrong_songs
 from host.files import checked, glanced, on_files, on_kept_sides, records
 from host.full_size import full_size
@@ -28,7 +28,7 @@ from host.writing import flushed, full_disk, living_parts, no_parts, past_a_limi
 from trying import expect, report
 
 PARTS = (on_files, on_kept_sides, records, checked, glanced, placed, block_places, wrong_files, wrong_songs,
-         other_refusals, names, for_scripts, from_input, slow_input, called_wrongly, no_numbers, called, helps,
+         other_refusals, names, for_scripts, from_input, slow_input, called_wrongly, no_numbers, called, helps, json_page,
          not_read, not_written, special_files, same_file, links, new_names, modes, not_allowed, shared, devices,
          hidden_folder, not_shown, no_memory, full_disk, really_full_disk, past_a_limit, living_parts, no_parts,
          flushed, not_replaced, other_sounds, backups, kept_twice, links_of_backups, several_names, closed_streams,

@@ -6,11 +6,11 @@ import time
 
 from host.places import record_of, with_junk
 from host.run import ADDED, ADDED_SONG, DECODED, FILES, HOST, KNOWN, NEW, OF_SOUND, added, does, left_out, tells
-from trying import EMPTY, SONG, expect, holding, printed, start, tried
 from second import command as second_command, reader as second_reader
 from second.command import answer
+from trying import EMPTY, ROOT, SONG, expect, holding, make, printed, run, start, tried
 from vectors import side_files, wave_files
-from vectors.wave_files import data, fmt, wave
+from vectors.wave_files import chunk, cue, data, fmt, point, wave
 
 
 def names():
@@ -167,3 +167,21 @@ def helps():
     for words, wanted in texts:
         tried(f'{words}', [*HOST, *words], FILES, (0, [], ''), {}, lambda answered, wanted=wanted: (
             answered[0], [word for word in wanted if word not in answered[1]], answered[2]))
+
+
+def json_page():
+    """docs/JSON.md shows what the command prints; the words of a place and of a way out are the command's own."""
+    lines = (ROOT / 'docs' / 'JSON.md').read_text().splitlines()
+    shown = [(line.split()[2:], lines[turn + 1].strip()) for turn, line in enumerate(lines)
+             if line.startswith('    $ tronalhet ')]
+    side = added(EMPTY, make.files()['harbour-song.wav'], 101, 4000)[1]
+    files = {**make.files(), 'side.wav': side, 'copy.wav': answer(second_command.encode, SONG, 256)[1],
+             'titled.wav': wave(fmt(), chunk(b'LIST', b'INFO'), data())}
+    wrong = {'side.wav': wave(fmt(), cue(point(101, 0), point(101, 1)), data())}
+    expect('the examples of docs/JSON.md', [words[0] for words, _ in shown],
+           ['check', 'list', 'check', 'decode', 'encode', 'add', 'new-side', 'decode'])
+    for words, line in shown:
+        new = words[2 if words[0] in ('decode', 'encode') else 1] if words[0] not in ('list', 'check', 'add') else None
+        there = wrong if (words[0], words[1]) == ('check', 'side.wav') else files
+        with holding({name: content for name, content in there.items() if name != new}) as folder:
+            expect(f'docs/JSON.md, {words}', run([*HOST, *words], folder)[1], f'{line}\n')
