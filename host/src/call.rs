@@ -125,7 +125,7 @@ pub const COMMANDS: &[Command] = &[
 pub const FILES: &str = "\
 A file may have 1,073,741,824 bytes. For a file that is read, - is standard input. A new file gets its name only
 when it is whole and on the disk, and takes the place of another only where that is SIDE, or with --replace.
-A refusal is reported by its number; standard error says what it means and where.
+A refusal is reported by its number; standard error says where it is, what it means, and a way out if there is one.
 ";
 pub const STATUS: &str = "\
 0 done, or nothing to do (18); 1 to 20 the number of the refusal; 64 a wrong call;
