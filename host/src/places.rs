@@ -17,6 +17,8 @@ mod kinds;
 mod left_out;
 mod lines;
 mod tables;
+#[cfg(test)]
+mod tests;
 mod way_out;
 
 pub use adding::{of_adding, way_out_of_adding, Which};
