@@ -24,18 +24,19 @@ from host.together import elsewhere, many_decodes, stuck_songs, ten_adds, ten_si
 from host.trouble import (devices, hidden_folder, links, modes, new_names, no_memory, not_allowed, not_read, not_shown,
                           not_written, same_file, shared, special_files)
 from host.wave import by_wave, demonstration, readme, story
+from host.ways_out import three_lines, ways_out, ways_out_by_name, ways_to_side
 from host.writing import flushed, full_disk, living_parts, no_parts, past_a_limit, really_full_disk
 from trying import expect, report
 
 PARTS = (on_files, on_kept_sides, records, checked, glanced, placed, block_places, wrong_files, wrong_songs,
-         other_refusals, names, for_scripts, from_input, slow_input, called_wrongly, no_numbers, called, helps, json_page,
-         not_read, not_written, special_files, same_file, links, new_names, modes, not_allowed, shared, devices,
-         hidden_folder, not_shown, no_memory, full_disk, really_full_disk, past_a_limit, living_parts, no_parts,
-         flushed, not_replaced, other_sounds, backups, kept_twice, links_of_backups, several_names, closed_streams,
-         closed_pipes, names_on_one_line, stuck_songs, waits, elsewhere, ten_adds, ten_sides, many_decodes,
-         handed_over, own_words, playing, built, built_again, changed_meanwhile, not_built, counted, two_builds,
-         killed_build, everything, not_installed, installed_command, compiled, man_page, completed, by_wave, story,
-         demonstration, readme, full_size)
+         other_refusals, ways_out, ways_to_side, ways_out_by_name, three_lines, names, for_scripts, from_input,
+         slow_input, called_wrongly, no_numbers, called, helps, json_page, not_read, not_written, special_files,
+         same_file, links, new_names, modes, not_allowed, shared, devices, hidden_folder, not_shown, no_memory,
+         full_disk, really_full_disk, past_a_limit, living_parts, no_parts, flushed, not_replaced, other_sounds,
+         backups, kept_twice, links_of_backups, several_names, closed_streams, closed_pipes, names_on_one_line,
+         stuck_songs, waits, elsewhere, ten_adds, ten_sides, many_decodes, handed_over, own_words, playing, built,
+         built_again, changed_meanwhile, not_built, counted, two_builds, killed_build, everything, not_installed,
+         installed_command, compiled, man_page, completed, by_wave, story, demonstration, readme, full_size)
 
 
 def main():

@@ -1,19 +1,25 @@
-"""Files with one fault each: the command tells its number and its place. And why a song is not added."""
+"""Files with one fault each: the command reports its number and its place. And why a song is not added."""
 import random
+import struct
 
-from host.places import first, place_in, refusal_of, with_junk
+from host.places import codes, field_of, first, place_in, refusal_of, with_junk
 from host.run import MOST, does, refuses
 from trying import expect
 from second import command as second_command, reader as second_reader, side as second_side
 from second.command import answer
 from vectors import side_files, sound_files
-from vectors.wave_files import chunk, cue, data, entry, fact, fmt, ima, microsoft, plst, point, wave
+from vectors.wave_files import PAIRS, chunk, cue, data, entry, fact, fmt, ima, microsoft, plst, point, wave
 
 
 # ---- faults that are made by hand
 
+def meant(bits, tag):
+    """What an extensible format adds to the first 16 bytes: its valid bits, a mask, and the tag that it stands for."""
+    return struct.pack('<HHIH', 22, bits, 1, tag) + bytes.fromhex('000000001000800000aa00389b71')
+
+
 def faults():
-    """Label, file and number of a file with one fault, and what must stand in the words that tell its place.
+    """Label, file and number of a file with one fault, and what must be in the words on it.
 
     Where the length of the file matters, which another chunk changes, `end` stands for it.
     """
@@ -21,15 +27,25 @@ def faults():
     yield 'four bytes', b'RIFF', 1, [4, 12, MOST]
     yield 'RIFX', wave(fmt(), data(), code=b'RIFX'), 2, ['RIFX', 'RIFF']
     yield 'another form', wave(fmt(), data(), form=b'WAVX'), 2, ['WAVX', 'WAVE']
-    yield 'R odd', wave(fmt(), data(), size=len(whole) - 7), 3, [len(whole) - 7]
-    yield 'R too large', wave(fmt(), data(), size=len(whole) + 92), 3, [len(whole) + 92, len(whole)]
+    yield 'an MP3 file', b'ID3\4' + bytes(20), 2, ['RIFF', 'MP3']
+    yield 'a FLAC file', b'fLaC' + bytes(20), 2, ['fLaC', 'FLAC']
+    yield 'R odd', wave(fmt(), data(), size=len(whole) - 7), 3, [len(whole) - 7, 'odd']
+    yield 'R too large', wave(fmt(), data(), size=len(whole) + 92), 3, [len(whole) + 92, len(whole), '100 too few']
+    yield 'R too small', wave(fmt(), data(), size=len(whole) - 20), 3, [len(whole) - 20, len(whole), '12 too many']
+    for size in (0, 0xffffffff, 0x7ffff024):
+        yield f'R {size}', wave(fmt(), data(), size=size), 3, [size, 'cut off while it was written']
+    for size in (0, 0xffffffff, 0x7ffff000):
+        sound = chunk(b'data', bytes(range(200, 216)), size)
+        yield f'data size {size}', wave(fmt(), sound), 4, [size, 'cut off while it was written']
+    yield 'no sound and a broken LIST', wave(fmt(), data(0), chunk(b'LIST', b'', 2)), 4, [2, 'end']
     yield 'data past the end', wave(fmt(), chunk(b'data', bytes(8), 10)), 4, [10, 'end']
     yield 'the last chunk past the end', wave(fmt(), data(), chunk(b'junk', b'', 2**32 - 8)), 4, [2**32 - 8, 'end']
     yield 'a head that is cut', wave(fmt(), data(), b'LIST\0\0'), 4, ['end']
     for name, made in (('fmt', fmt()), ('data', data()), ('fact', fact(4)), ('cue', cue()), ('plst', plst())):
-        yield f'a second {name}', wave(fmt(), data(), fact(4), cue(), plst(), chunk(b'LIST'), made), 5, []
+        twice = wave(fmt(), data(), fact(4), cue(), plst(), chunk(b'LIST'), made)
+        yield f'a second {name}', twice, 5, ['second', 'first']
     yield 'data before fmt', wave(chunk(b'junk'), data(), fmt()), 6, ['fmt ']
-    yield 'LIST of wavl', wave(fmt(), chunk(b'LIST', b'INFO'), chunk(b'LIST', b'wavl'), data()), 7, []
+    yield 'LIST of wavl', wave(fmt(), chunk(b'LIST', b'INFO'), chunk(b'LIST', b'wavl'), data()), 7, ['wavl']
     yield 'no fmt', wave(chunk(b'junk')), 8, ['fmt ']
     yield 'no data', wave(fmt()), 8, ['data']
     yield '16-bit sound of 7 bytes', wave(fmt(), data(7)), 10, [7, 1, 2]
@@ -38,13 +54,16 @@ def faults():
     yield 'a fact of 3 bytes', wave(fmt(), chunk(b'fact', b'\0\0\0'), data()), 11, [3, 4]
     yield 'a count of 10 for 9', wave(ima(), fact(10), data(8)), 11, [10, 1, 9]
     yield 'a count of 8 in three blocks', wave(microsoft(2, 16, 4), fact(8), data(48)), 11, [8, 3, 4, 9, 12]
+    yield 'a count of 1 without a block', wave(ima(), fact(1), data(0)), 11, [1, 0]
 
 
 def format_faults():
     """The same of formats."""
     for label, made, said in (
-            ('14 bytes', chunk(b'fmt ', fmt()[8:22]), [14, 16]), ('float', fmt(tag=3), [3]),
-            ('extensible', fmt(tag=65534), [65534]), ('three channels', fmt(channels=3), [3]),
+            ('14 bytes', chunk(b'fmt ', fmt()[8:22]), [14, 16]), ('float', fmt(tag=3), [3, 'floating point']),
+            ('extensible', fmt(tag=65534), [65534, 'extensible']), ('A-law', fmt(tag=6, bits=8), [6, 'A-law']),
+            ('extensible of 24 bits', fmt(tag=65534, bits=24, more=meant(24, 1)), [65534, '24-bit PCM']),
+            ('three channels', fmt(channels=3), [3]),
             ('no channel', fmt(channels=0, align=2), [0]), ('rate 0', fmt(rate=0), [0, 192000]),
             ('rate 192001', fmt(rate=192001), [192001, 192000]), ('24 bits', fmt(bits=24), [24, 8, 16]),
             ('align 3', fmt(align=3), [3, 2]), ('average 8000', fmt(average=8000), [8000, 16000]),
@@ -58,14 +77,15 @@ def format_faults():
             ('Microsoft of 8 bits', microsoft(bits=8), [8, 4]),
             ('Microsoft, align 7', microsoft(align=7, samples=2), [7, 8, 4096]),
             ('Microsoft, samples 5', microsoft(samples=5), [5, 4]),
-            ('Microsoft, six pairs', microsoft(count=6), ['pairs']),
-            ('Microsoft, other pairs', microsoft(pairs=[1] * 14), ['pairs'])):
+            ('Microsoft, six pairs', microsoft(count=6), [6, 7]),
+            ('Microsoft, other pairs', microsoft(pairs=[1] * 14), ['pair 1', '(256, 0)']),
+            ('Microsoft, another last pair', microsoft(pairs=[*PAIRS[:13], 232]), ['pair 7', '(392, -232)'])):
         yield label, wave(chunk(b'LIST', b'odd'), made, fact(1), data(8)), 9, said
-        yield f'{label}, behind others', wave(fact(1), cue(), made, data(8)), 9, said
+        yield f'{label}, after others', wave(fact(1), cue(), made, data(8)), 9, said
 
 
 def table_faults():
-    """The same of cues and of the playlist, whose entries are told by their names."""
+    """The same of cues and of the playlist, whose entries are reported by their names."""
     big, good = 4000000000, [point(7, 0), point(8, 3)]
     for label, made, said in (
             ('no bytes', chunk(b'cue '), [0]), ('65 cues', cue(*[point(n, 0) for n in range(65)]), [65, 64]),
@@ -88,7 +108,7 @@ def table_faults():
 
 
 def placed():
-    """A fault is told with chunk, byte and cue, and the numbers that matter; also behind a chunk that is skipped."""
+    """A fault is reported with chunk, field, byte and cue, and the numbers that matter; also after a skipped chunk."""
     for label, file, number, words in [*faults(), *format_faults(), *table_faults()]:
         for made in [file] if number < 4 else [file, with_junk(file, 12)]:
             expect(f'{label}, the number by the second reader', refusal_of(made), number)
@@ -100,7 +120,7 @@ def placed():
 
 
 def block_places():
-    """Refusal 15 is told with the block, the byte and the channel; of two wrong blocks with the first."""
+    """Refusal 15 is reported with block and channel, both counted from 1, and byte; of two wrong blocks the first."""
     for tag, channels, turn in [(tag, channels, turn) for tag in (17, 2) for channels in (1, 2) for turn in range(3)]:
         most = 88 if tag == 17 else 6
         block, channel, value = ((0, 0, most + 1), (3, channels - 1, 255), (6, 0, most + 2))[turn]
@@ -109,28 +129,39 @@ def block_places():
         within = 4 * channel + 2 if tag == 17 else channel
         blocks[block] = blocks[block][:within] + bytes([value]) + blocks[block][within + 1:]
         file = with_junk(sound_files.adpcm(tag, channels, *blocks), 12)
-        where = {'file': 'file.wav', 'byte': first(file, b'data')[0] + 8 + align * block + within, 'block': block}
+        name = 'step index' if tag == 17 else 'predictor'
+        samples = (24 - 4) * 2 + 1 if tag == 17 else (24 - 7) * 2 + 2
+        time = f'0:00.{round(block * samples / 8):03}'
+        where = {'file': 'file.wav', **field_of(file, b'data', name, align * block + within), 'block': block + 1,
+                 'blocks': 7, 'channel': channel + 1}
         for call in (['decode', 'file.wav', 'new.wav'], ['encode', 'file.wav', 'new.wav'],
                      ['check', 'file.wav', '--sound']):
             refuses(f'{call[0]}, tag {tag}, {channels} channels, block {block}', call, {'file.wav': file}, 15, where,
-                    [channel + 1, value, most])
+                    [value, most, time])
 
 
 # ---- why a song is not added
 
-def unplaced(file):
-    """The first cue of a file, if any, which is not where the song before it ends, or is not played as on a side."""
+def no_side(file):
+    """The place of what makes a file of 16-bit PCM no side: the first song that is not where it must be, or the end."""
     _, _, cues, plays, _, _ = second_reader.read(file)
     end = 0
-    for (name, _, place), (listed, length, times) in zip(cues, plays):
-        if (place, listed, times) != (end, name, 1):
-            return {'cue': name}
+    for turn, ((name, _, place), (listed, length, times)) in enumerate(zip(cues, plays)):
+        rules = [(b'cue ', 'sample offset', 24 * turn + 20, place == end),
+                 (b'plst', 'name', 12 * turn, listed == name), (b'plst', 'times', 12 * turn + 8, times == 1)]
+        wrong = [field_of(file, code, field, 4 + offset) for code, field, offset, met in rules if not met]
+        if wrong:
+            return {**wrong[0], 'cue': name}
         end += length
-    return {}
+    if not cues or b'plst' not in codes(file):
+        return {}
+    if len(cues) != len(plays):
+        return field_of(file, b'plst', 'count', 0)
+    return {**field_of(file, b'plst', 'length', 4 + 12 * (len(plays) - 1) + 4), 'cue': cues[-1][0]}
 
 
 def not_added(label, side, song, number, limit, refusal, where, said=()):
-    """Adding is refused, in place and to another file, and the place is told; the files stay."""
+    """Adding is refused, in place and to another file, and the place is reported; the files stay."""
     files = {'side.wav': side, 'song.wav': song}
     answered = answer(second_command.add, side, song, number, limit)
     expect(f'{label}, by the second way', answered, ([f'refused {refusal}'], None))
@@ -140,28 +171,32 @@ def not_added(label, side, song, number, limit, refusal, where, said=()):
 
 
 def wrong_files():
-    """What is wrong with the file of a song is told as of any file; of a side it is 19, and the number is said."""
+    """What is wrong with a song's file is reported as of any file; of a side it is 19, with the number in the words."""
     side, song = side_files.side((7, 2)), side_files.song()
     for label, number, made in side_files.faulty():
         place = place_in(number, made)
         not_added(f'song: {label}', side, made, 5, 99, number, {'file': 'song.wav', **place})
         not_added(f'side: {label}', made, song, 5, 99, 19, {'file': 'side.wav', **place}, [number])
     for label, made in side_files.wrong_tables():
-        not_added(f'no side: {label}', made, song, 5, 99, 19, {'file': 'side.wav', **unplaced(made)})
+        not_added(f'no side: {label}', made, song, 5, 99, 19, {'file': 'side.wav', **no_side(made)})
     for label, made in side_files.wrong_formats():
-        not_added(f'no side: {label}', made, song, 5, 99, 19, {'file': 'side.wav'}, ['16-bit'])
+        tag = made[first(made, b'fmt ')[0] + 8]
+        field, said = (('bits per sample', 14), [8, 16]) if tag == 1 else (('tag', 0), [tag, 1])
+        where = {'file': 'side.wav', **field_of(made, b'fmt ', *field)}
+        not_added(f'no side: {label}', made, song, 5, 99, 19, where, said)
 
 
 def wrong_songs():
     """Refusals 9 and 16 to 18: the file in which the reason is, the cue, and the numbers that matter."""
     side, song = side_files.side((7, 2), (8, 3)), side_files.song
     on_side, in_song = {'file': 'side.wav'}, {'file': 'song.wav'}
-    not_added('8 bits', side, song(bits=8), 5, 99, 9, in_song, ['16-bit'])
-    not_added('IMA', side, wave(ima(), fact(9), data(8)), 5, 99, 9, in_song, ['16-bit'])
-    not_added('stereo', side, song(channels=2), 5, 99, 9, in_song, [2, 1])
-    not_added('rate 8001', side, song(rate=8001), 5, 99, 9, in_song, [8001, 8000])
+    for label, made, field, said in (('8 bits', song(bits=8), ('bits per sample', 14), [8, 16]),
+                                     ('IMA', wave(ima(), fact(9), data(8)), ('tag', 0), [17, 1]),
+                                     ('stereo', song(channels=2), ('channels', 2), [2, 1]),
+                                     ('rate 8001', song(rate=8001), ('rate', 4), [8001, 8000])):
+        not_added(label, side, made, 5, 99, 9, {**in_song, **field_of(made, b'fmt ', *field)}, said)
     silent = wave(chunk(b'junk', b'abc'), fmt(), data(0))
-    not_added('no frames', side, silent, 8, 99, 16, {**in_song, 'chunk': 'data', 'byte': first(silent, b'data')[0]})
+    not_added('no frames', side, silent, 8, 99, 16, {**in_song, **field_of(silent, b'data', 'size', 0)}, [0])
     own = side_files.sound_of(3, 8)
     for label, sound, said in (('another byte', own[:3] + b'\0' + own[4:], [3, 3, 1]),
                                ('longer', own + b'ab', [3, 4, 3]), ('shorter', own[:4], [3, 2, 2]),
@@ -169,7 +204,7 @@ def wrong_songs():
         not_added(label, side, song(sound=sound), 8, 99, 16, {**on_side, 'cue': 8}, said)
     not_added('the second song again', side, song(3, 8), 8, 99, 18, {**on_side, 'cue': 8}, [2])
     not_added('the first song again', side, song(2, 7), 7, 0, 18, {**on_side, 'cue': 7}, [1, 0])
-    not_added('past the limit', side, song(20), 5, 21, 17, on_side, [5, 20, 25, 4])
+    not_added('past the limit', side, song(20), 5, 21, 17, on_side, [5, 20, 25, 4, 21, '0:00.001'])
     not_added('64 songs', side_files.full_side(64), song(), 5, 99, 17, on_side, [64])
 
 
