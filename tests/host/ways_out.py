@@ -83,6 +83,8 @@ def endings():
         yield f'data {known}', wave(fmt(), chunk(b'data', sound, known)), written
         yield f'data {known} of 20 bits', wave(fmt(bits=20, align=3), chunk(b'data', sound, known)), None
     yield 'R of the whole length', wave(fmt(), data(), size=whole), anew
+    yield 'R wrong, data before fmt', wave(data(), fmt(), size=whole), None
+    yield 'R wrong, no data', wave(fmt(), size=whole), None
     yield 'no pad', wave(fmt(bits=8), data(7), size=whole - 9)[:-1], anew
     yield 'bytes missing', wave(fmt(), data(1000))[:-300], f'300 bytes are missing at the end: {AGAIN}'
     tagged = wave(fmt(), data()) + b'TAG' + bytes(125)

@@ -39,9 +39,12 @@ pub fn open_sound(file: &[u8]) -> Option<Chunk> {
 /// How a file that starts with RIFF and WAVE ends.
 pub fn ending(file: &[u8]) -> Ending {
     let (said, there) = (riff_size(file) + 8, file.len() as u64);
+    if not_known_yet(said - 8) {
+        return Ending::Unfinished;
+    }
     let past = passing(file);
     let last_pad = matches!(past, Some(Passing::Chunk(chunk)) if chunk.end() == file.len() + 1);
-    if not_known_yet(said - 8) || past.is_some() && open_sound(file).is_some() {
+    if past.is_some() && open_sound(file).is_some() {
         Ending::Unfinished
     } else if (12..there).contains(&said) && passing(&file[..said as usize]).is_none() {
         Ending::More
