@@ -1,6 +1,5 @@
 // The words that a program is called with.
 use crate::trouble::say;
-use libc::STDERR_FILENO;
 
 // A number that a word says.
 pub enum Said {
@@ -8,14 +7,19 @@ pub enum Said {
     Trouble,
 }
 
+// Says how a program is called.
+fn usage(words: &[u8]) {
+    say(b"usage: ");
+    say(words);
+    say(b"\n");
+}
+
 // Whether a program is called with so many words, its own name among them; if not, it says how it is called.
-pub fn called(count: usize, usage: &[u8]) -> bool {
+pub fn called(count: usize, words: &[u8]) -> bool {
     if os::arg_count() == count {
         return true;
     }
-    say(b"usage: ");
-    say(usage);
-    say(b"\n");
+    usage(words);
     false
 }
 
@@ -51,20 +55,8 @@ fn value(text: &[u8]) -> Said {
     Said::Number(sum as u32)
 }
 
-// Says that a word is no number from 0 to the most.
-fn wrong(program: &[u8], name: &[u8], most: u32, text: &[u8]) {
-    say(program);
-    say(b": ");
-    say(name);
-    say(b" must be a whole number from 0 to ");
-    io::print_decimal(STDERR_FILENO, most as u64);
-    say(b", not '");
-    say(text);
-    say(b"'\n");
-}
-
-// The number from 0 to the most that a word says; the name is what the usage calls it.
-pub fn number(program: &[u8], i: usize, name: &[u8], most: u32) -> Said {
+// The number from 0 to the most that a word says; where it says none, the program says how it is called.
+pub fn number(i: usize, most: u32, words: &[u8]) -> Said {
     let mut text = io::buffer();
     let n = os::arg(i, &mut text);
     let found = value(&text[..n]);
@@ -73,6 +65,6 @@ pub fn number(program: &[u8], i: usize, name: &[u8], most: u32) -> Said {
             return found;
         }
     }
-    wrong(program, name, most, &text[..n]);
+    usage(words);
     Said::Trouble
 }

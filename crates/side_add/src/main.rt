@@ -1,7 +1,7 @@
 // side_add SIDE SONG NUMBER LIMIT OUT: adds a song under its donation number to a side that may have LIMIT
-// frames, and writes the new side. OUT may be SIDE itself: all is read before anything is written. Prints the
-// number and how many bytes the new side has; or `refused` and the number of the refusal, 18 where the song is
-// on the side already, and then it writes nothing.
+// frames, and writes the new side to OUT, which is a new name. Prints the number and how many bytes the new side
+// has; or `refused` and the number of the refusal, 18 where the song is on the side already, and then it writes
+// nothing.
 //
 // SIDE and SONG may have 262,144 bytes each at most; a longer one is `refused 1`. So may the new side, which is
 // to be read again; a new side longer than that is `refused 14`. All is held on the stack, 0.8 MB.
@@ -10,6 +10,9 @@ use files::Said;
 use wave::Added;
 use wave::Donation;
 use wave::Frames;
+
+// How it is called.
+const USAGE: [u8; 35] = *b"side_add SIDE SONG NUMBER LIMIT OUT";
 
 // Puts the new side where it is to be, and says what was added.
 fn keep(number: Donation, file: &[u8]) {
@@ -21,9 +24,9 @@ fn keep(number: Donation, file: &[u8]) {
     files::size(file);
 }
 
-// Adds a song to a side.
+// Adds a song to a side. A side has an even number of bytes, so in this room it has 262,144 at most.
 fn add(side: &[u8], song: &[u8], number: Donation, limit: Frames) {
-    let mut out = files::side_room();
+    let mut out = files::file_room();
     match wave::add(side, song, number, limit, &mut out) {
         Added::Bytes(size) => keep(number, riff::bytes_from(&out, 0, size.0)),
         Added::Refused(refusal) => listing::refused(refusal),
@@ -55,13 +58,13 @@ fn start(number: Donation, limit: Frames) {
 }
 
 fn main() {
-    if !files::called(6, b"side_add SIDE SONG NUMBER LIMIT OUT") {
+    if !files::called(6, &USAGE) {
         return;
     }
-    let Said::Number(number) = files::number(b"side_add", 3, b"NUMBER", 4294967295) else {
+    let Said::Number(number) = files::number(3, 4294967295, &USAGE) else {
         return;
     };
-    let Said::Number(limit) = files::number(b"side_add", 4, b"LIMIT", 4294967295) else {
+    let Said::Number(limit) = files::number(4, 4294967295, &USAGE) else {
         return;
     };
     start(Donation(number), Frames(limit));

@@ -1,6 +1,6 @@
 // wave_decode IN OUT: decodes a WAVE file, and writes its sound as a WAVE file of 16-bit PCM with the same
-// channels, rate, cues and playlist. Prints how many frames it has and how many bytes the new file has; or
-// `refused` and the number of the refusal, and then it writes nothing.
+// channels, rate, cues and playlist to OUT, which is a new name. Prints how many frames it has and how many bytes
+// the new file has; or `refused` and the number of the refusal, and then it writes nothing.
 //
 // IN may have 262,144 bytes at most; a longer one is `refused 1`. No such file lacks room. All is held on the
 // stack, 3.4 MB.
@@ -49,7 +49,7 @@ fn keep(frames: Frames, file: &[u8]) {
 
 // Writes the file of a record and its sound.
 fn write(made: Record, sound: &[u8]) {
-    let mut out = files::long_room();
+    let mut out = files::new_room();
     match wave::write(made, sound, &mut out) {
         Written::Bytes(size) => keep(made.frames, riff::bytes_from(&out, 0, size.0)),
         Written::Refused(refusal) => listing::refused(refusal),
@@ -58,7 +58,7 @@ fn write(made: Record, sound: &[u8]) {
 
 // Writes the frames at the start of a sound.
 fn write_sound(made: Record, sound: &[i16; 524288]) {
-    let mut raw = files::long_room();
+    let mut raw = files::new_room();
     samples::to_pcm16(sound, &mut raw);
     let format = made.format;
     let frames = made.frames;

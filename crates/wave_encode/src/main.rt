@@ -1,10 +1,10 @@
 // wave_encode IN OUT ALIGN: makes the approval copy that a donor gets. Decodes a WAVE file, encodes its sound
-// to IMA blocks of ALIGN bytes, and writes them as a WAVE file. Prints how many frames it has, how many bytes
-// the new file has, and how many samples of each channel were chased; or `refused` and the number of the
-// refusal, and then it writes nothing.
+// to IMA blocks of ALIGN bytes, and writes them as a WAVE file to OUT, which is a new name. Prints how many frames
+// it has, how many bytes the new file has, and how many samples of each channel were chased; or `refused` and the
+// number of the refusal, and then it writes nothing.
 //
 // IN may have 262,144 bytes at most; a longer one is `refused 1`. No such file lacks room. All is held on the
-// stack, 2.4 MB.
+// stack, 3.4 MB.
 use files::Input;
 use files::Said;
 use wave::Coded;
@@ -14,6 +14,9 @@ use wave::Format;
 use wave::Frames;
 use wave::Record;
 use wave::Written;
+
+// How it is called.
+const USAGE: [u8; 24] = *b"wave_encode IN OUT ALIGN";
 
 // The chased samples of one channel.
 fn chased(name: &[u8], count: Frames) {
@@ -95,10 +98,10 @@ fn start(align: u16) {
 }
 
 fn main() {
-    if !files::called(4, b"wave_encode IN OUT ALIGN") {
+    if !files::called(4, &USAGE) {
         return;
     }
-    let Said::Number(align) = files::number(b"wave_encode", 3, b"ALIGN", 65535) else {
+    let Said::Number(align) = files::number(3, 65535, &USAGE) else {
         return;
     };
     // It is at most 65,535, so nothing of it is cut off.
