@@ -159,10 +159,12 @@ def names():
         does(name, ['wave_decode', '-a song', name], {'-a song': SONG}, answer(second_command.decode, SONG), name)
 
 
+ENCODING, ADDING = 'wave_encode IN OUT ALIGN', 'side_add SIDE SONG NUMBER LIMIT OUT'
+
+
 def wrong_calls():
     """No words, too few, too many, and one more that is empty."""
-    for usage in ('wave_check FILE', 'wave_decode IN OUT', 'wave_encode IN OUT ALIGN',
-                  'side_add SIDE SONG NUMBER LIMIT OUT'):
+    for usage in ('wave_check FILE', 'wave_decode IN OUT', ENCODING, ADDING):
         name, *needed = usage.split()
         known = {'IN': 'song.wav', 'FILE': 'song.wav', 'SIDE': 'side.wav', 'SONG': 'song.wav', 'OUT': 'new.wav'}
         given = [known.get(word, '256') for word in needed]
@@ -171,15 +173,12 @@ def wrong_calls():
 
 
 def wrong_numbers():
-    """Arguments that are not a number, or too large a one; one of 5,000 digits is not shown."""
+    """Arguments that are not a number, or too large a one."""
     for word in ('', 'seven', '-1', '+1', ' 1', '1 ', '1.0', '0x10', '4294967296', '9' * 30, '1' * 5000):
-        said = 'must be a whole number from 0 to {}, not \'' + ('' if len(word) == 5000 else word) + '\''
-        most = said.format(2**32 - 1)
-        trouble(['side_add', 'side.wav', 'song.wav', word, 1000, 'new.wav'], f'side_add: NUMBER {most}')
-        trouble(['side_add', 'side.wav', 'song.wav', 7, word, 'new.wav'], f'side_add: LIMIT {most}')
-        trouble(['wave_encode', 'song.wav', 'new.wav', word], f'wave_encode: ALIGN {said.format(65535)}')
-    trouble(['wave_encode', 'song.wav', 'new.wav', 65536],
-            "wave_encode: ALIGN must be a whole number from 0 to 65535, not '65536'")
+        trouble(['side_add', 'side.wav', 'song.wav', word, 1000, 'new.wav'], f'usage: {ADDING}')
+        trouble(['side_add', 'side.wav', 'song.wav', 7, word, 'new.wav'], f'usage: {ADDING}')
+        trouble(['wave_encode', 'song.wav', 'new.wav', word], f'usage: {ENCODING}')
+    trouble(['wave_encode', 'song.wav', 'new.wav', 65536], f'usage: {ENCODING}')
 
 
 # ---- trouble with files
@@ -196,7 +195,8 @@ def not_read():
     for name, reason in reasons.items():
         for call in reading(name):
             trouble(call, f'{call[0]}: cannot read {name}: {reason}')
-    trouble(['wave_check', 'n' * 5000], f'wave_check: cannot read a file: {LONG}')
+    # No name is that long; it is left out.
+    trouble(['wave_check', 'n' * 5000], f'wave_check: cannot read : {MISSING}')
 
 
 def not_made():
@@ -209,7 +209,7 @@ def not_made():
     for name, reason in reasons.items():
         for call in writing(name):
             trouble(call, f'{call[0]}: cannot make {name}: {reason}')
-    trouble(writing('n' * 5000)[0], f'wave_decode: cannot make a file: {LONG}')
+    trouble(writing('n' * 5000)[0], f'wave_decode: cannot make : {MISSING}')
 
 
 def full_disk():
