@@ -9,11 +9,10 @@ import os
 import subprocess
 import sys
 
-from data import others, songs
+from data import others
 from programs import small
 from programs.running import ROOT, run
-from second import reader as second_reader
-from vectors import approval_copies, ima_sounds, many_files, side_files, sound_files, wave_files, writer_records
+from vectors import entries, wave_files
 
 def long_file(n):
     """A file of n bytes, all sound but for its header."""
@@ -49,30 +48,6 @@ def in_pieces(file):
         return run('wave_list', stdin=slow.stdout)
 
 
-def read_files(count, seed):
-    """Generated files as entries of reader_vectors, each with the lines that the second reader says."""
-    for place, file in enumerate(many_files.files(count, seed)):
-        listed, left_out = second_reader.listing(file)
-        yield wave_files.labelled(str(place), file), [str(place)] + listed + left_out
-
-
-def other_sides():
-    """The sides and songs of tests/data/songs.py as entries of side_vectors."""
-    for label, side, song in songs.onto():
-        yield side_files.vector(label, side, song, songs.NUMBER, songs.LIMIT, side_files.ROOM)
-
-
-def batches(vectors):
-    """The entries of a program's input, as many at a time as it takes, and what it must write."""
-    data, lines = b'', []
-    for entry, expected in vectors:
-        if len(data) + len(entry) > 65536:
-            yield data, lines
-            data, lines = b'', []
-        data, lines = data + entry, lines + expected
-    yield data, lines
-
-
 def differences(wrote, lines):
     """The lines that a program wrote and those that it must write, where they differ."""
     yield from (pair for pair in zip(wrote, lines) if pair[0] != pair[1])
@@ -80,23 +55,17 @@ def differences(wrote, lines):
         yield f'{len(wrote)} lines', f'{len(lines)} lines'
 
 
-def unlike(name, vectors):
-    """The lines on which a program and the second reader, coder, decoder, writer or way to add differ."""
-    for data, lines in batches(vectors):
-        yield from differences(run(name, input=data).splitlines(), lines)
+def unlike(vectors):
+    """The lines on which `vectors` and the second reader, coder, decoder, writer or way to add differ."""
+    for data, lines in entries.batches(vectors):
+        yield from differences(run('vectors', input=data).splitlines(), lines)
 
 
 def main(count=20000, seed=1):
     count, seed = int(count), int(seed)
     wrong = [f'wave_list on {label} wrote {wrote!r}' for label, wrote, expected in listings() if wrote != expected]
-    generated = {'reader_vectors': read_files(count, seed), 'ima_vectors': ima_sounds.many(count // 10, seed),
-                 'sound_vectors': sound_files.many(count // 10, seed),
-                 'writer_vectors': writer_records.many(count // 10, seed),
-                 'side_vectors': [*other_sides(), *side_files.many(count // 10, seed)],
-                 'approval_vectors': approval_copies.many(count // 10, seed)}
-    unlikes = {name: unlike(name, vectors) for name, vectors in generated.items()}
-    wrong += [f'{name} wrote {wrote!r}, in Python it is {expected!r}'
-              for name, pairs in unlikes.items() for wrote, expected in pairs]
+    wrong += [f'vectors wrote {wrote!r}, in Python it is {expected!r}'
+              for wrote, expected in unlike(entries.generated(count, seed))]
     for line in wrong[:20]:
         print(f'tests/programs: {line}')
     return max(1 if wrong else 0, small.main())

@@ -1,6 +1,6 @@
-"""Sounds whose approval copy is made, as `approval_vectors` takes them.
+"""Sounds whose approval copy is made, as `vectors` takes them.
 
-Each comes with the lines that `approval_vectors` must print, by the second coder, the second writer and the second
+Each comes with the lines that `vectors` must print, by the second coder, the second writer and the second
 decoder; which step refuses, or how long the file is, the table says itself.
 """
 import random

@@ -1,6 +1,6 @@
-"""Sounds to code at the borders of document 01's rules for IMA, as `ima_vectors` takes them.
+"""Sounds to code at the borders of document 01's rules for IMA, as `vectors` takes them.
 
-Each comes with the lines that `ima_vectors` must print, by the second coder; document 01's own examples are
+Each comes with the lines that `vectors` must print, by the second coder; document 01's own examples are
 held to what it prints of them.
 """
 import random

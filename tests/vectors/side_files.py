@@ -1,7 +1,7 @@
-"""Sides and songs to add to them, at the borders of document 01's rules, as `side_vectors` takes them.
+"""Sides and songs to add to them, at the borders of document 01's rules, as `vectors` takes them.
 
 Beside each stands its answer, worked out by hand from document 01, and of a few the whole file; the second way to
-add must say the same. What `side_vectors` must print besides is what that says.
+add must say the same. What `vectors` must print besides is what that says.
 
 An entry is four numbers of two bytes, two of four, the label, the side file and the song file. The numbers are: the
 length of the label; the room in bytes, at most 16,384; the lengths of the side file and the song file; the song's
@@ -73,12 +73,12 @@ def tabled(cues, plays, form=None, sound=None, more=()):
 # ---- vectors
 
 def asked(label, old, new, number, limit, room):
-    """An entry as `side_vectors` takes it: a side file and the file of a song."""
+    """An entry as `vectors` takes it: a side file and the file of a song."""
     return struct.pack('<4H2I', len(label), room, len(old), len(new), number, limit) + label.encode() + old + new
 
 
 def vector(label, old, new, number, limit, room):
-    """The entry, and the lines that `side_vectors` must print of it."""
+    """The entry, and the lines that `vectors` must print of it."""
     kind, made = second_side.check(old, new, number, limit, room)
     lines = [label, *answer_lines(made, room)]
     if kind == 'bytes':
@@ -102,7 +102,7 @@ def adding(label, said, old, new, number=5, limit=MOST, room=None):
 
 
 def start(label, channels, rate, room):
-    """An empty side to make, and the lines that `side_vectors` must print of it."""
+    """An empty side to make, and the lines that `vectors` must print of it."""
     _, made = second_side.empty(channels, rate, room)
     return asked(label, b'', b'', channels, rate, room), [label, *answer_lines(made, room)]
 
@@ -497,19 +497,15 @@ def two_by_two():
 
 
 def all_vectors():
-    """All that is stored: as much as the program reads."""
-    made = [*starts(), *examples(), *first_songs(), *more_songs(), *left_out(), *positions(), *refused_files(),
+    return [*starts(), *examples(), *first_songs(), *more_songs(), *left_out(), *positions(), *refused_files(),
             *no_sides(), *unlike_songs(), *silent_songs(), *listed_songs(), *long_songs(), *limits(), *full_sides(),
             *rooms(), *all_at_once(), *two_by_two()]
-    if sum(len(taken) for taken, _ in made) > 65536:
-        raise ValueError('the sides and songs are more than 65,536 bytes')
-    return made
 
 
 # ---- what is tried besides
 
 def large():
-    """Full sides and long songs, for which the stored table has no room."""
+    """Full sides and long songs, too long to be stored."""
     many, full = full_side(63), full_side(64)
     yield adding('songs before: 63, one frame over the limit', 17, many, song(), limit=64)
     yield adding('songs before: 63, exactly enough room', size(64, 65), many, song(), room=size(64, 65))

@@ -1,6 +1,6 @@
-"""Files to decode, whole or one block of them, at the borders of document 01's rules, as `sound_vectors` takes them.
+"""Files to decode, whole or one block of them, at the borders of document 01's rules, as `vectors` takes them.
 
-Each comes with the lines that `sound_vectors` must print, by the second decoder; document 01's own examples are
+Each comes with the lines that `vectors` must print, by the second decoder; document 01's own examples are
 held to what it prints of them.
 """
 import random

@@ -64,7 +64,7 @@ def plst(*entries, count=None, more=b''):
 
 
 def labelled(label, file):
-    """A file as `reader_vectors` takes it."""
+    """A file as `vectors` takes it."""
     return struct.pack('<H', len(label)) + label.encode() + struct.pack('<I', len(file)) + file
 
 

@@ -1,7 +1,7 @@
-"""Records and sounds to write, at the borders of document 01's rules, as `writer_vectors` takes them.
+"""Records and sounds to write, at the borders of document 01's rules, as `vectors` takes them.
 
 Beside each stands its answer, worked out by hand from document 01, and of a few the whole file; the second writer
-must say the same. What `writer_vectors` must print besides is the second writer's.
+must say the same. What `vectors` must print besides is the second writer's.
 """
 import random
 import struct
@@ -43,7 +43,7 @@ def sound_of(n):
 
 
 def entry(label, record, sound, room):
-    """A record and a sound as `writer_vectors` takes them. The tables stand there as in a file, with as many
+    """A record and a sound as `vectors` takes them. The tables stand there as in a file, with as many
     entries as are given; how many the record counts is said apart."""
     tag, channels, rate, bits, align, samples = record.form
     cues = second_writer.cue(record._replace(cue_count=len(record.cues)))
@@ -62,7 +62,7 @@ def answer_lines(answer, room):
 
 
 def vector(label, record, sound, room):
-    """The entry, and the lines that `writer_vectors` must print of it."""
+    """The entry, and the lines that `vectors` must print of it."""
     second_writer.check(record, sound)
     answer = second_writer.write(record, sound, room)
     more = [] if isinstance(answer, int) else ['reads back']

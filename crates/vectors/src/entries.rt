@@ -1,0 +1,26 @@
+// The parts of an entry. Most are a head, whose first two bytes are the length of the label; the label; and whatever
+// else the head tells of.
+ghost use mathlib.Core.Path.{_≡_};
+ghost use Prim.Native.Nat.{_-_, _≤_};
+ghost use lib.ListN.{length};
+
+// What follows the first n bytes.
+pub fn past(bytes: &[u8], n: usize) -> &[u8]
+    ensures { λ r. ⌜ length (now r) ≡ length (now (bytes .entry)) - n ⌝ }
+{
+    if bytes.len() <= n {
+        return &bytes[..0];
+    }
+    &bytes[n..]
+}
+
+// Prints the label of the first entry, on a line of its own, and hands out what follows it.
+pub fn labelled(table: &[u8], head: u16) -> &[u8]
+    ensures { λ r. ⌜ length (now r) ≤ length (now (table .entry)) ⌝ }
+{
+    let from = head as usize;
+    let size = little::u16_or_zero(table, 0) as usize;
+    show::word(riff::bytes_from(table, from, size));
+    show::line();
+    past(table, from + size)
+}

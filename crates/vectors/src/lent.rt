@@ -1,0 +1,54 @@
+// What is printed of a lent buffer, each byte of which was 170 before and which has 16,384 bytes at most: the answer,
+// what was written, and whether the rest is untouched.
+use crate::entries::past;
+use units::Refusal;
+ghost use mathlib.Core.Path.{_≡_};
+ghost use Prim.Native.Nat.{_≤_};
+ghost use lib.ListN.{length, take};
+
+// So many samples of a sound, or as many as there are. The `ensures` is what lending that part of it asks for.
+pub fn count(n: usize, sound: &[i16]) -> usize
+    ensures { λ r. ⌜ (r ≤ length (now (sound .entry))) × (r ≡ length (take r (now (sound .entry)))) ⌝ }
+{
+    if sound.len() < n {
+        return sound.len();
+    }
+    n
+}
+
+// A file, or of more than 128 bytes a number mixed of them.
+fn file_line(file: &[u8]) {
+    if 128 < file.len() {
+        show::field(b"mixed ", show::mixed_bytes(file));
+    } else {
+        show::word(b"file");
+        show::bytes(file);
+    }
+    show::line();
+}
+
+// Whether what nothing was written to is as it was.
+fn rest_line(rest: &[u8]) {
+    let before = [170u8; 16384];
+    let n = rest.len();
+    show::field(b"rest ", n as u64);
+    show::either(
+        check::same(rest, riff::bytes_from(&before, 0, n)),
+        b" untouched",
+        b" changed",
+    );
+}
+
+// A refusal, and the lent buffer.
+pub fn refused_lines(refusal: Refusal, out: &[u8]) {
+    listing::refused(refusal);
+    rest_line(out);
+}
+
+// How many bytes were written to a lent buffer, and which.
+pub fn written_lines(size: usize, out: &[u8]) {
+    show::field(b"bytes ", size as u64);
+    show::line();
+    file_line(riff::bytes_from(out, 0, size));
+    rest_line(past(out, size));
+}

@@ -1,0 +1,66 @@
+// Reads a file. An entry is the length of the label in two bytes, the label, the length of the file in four, and the
+// file.
+//
+// It prints the listing and what the listing leaves out: align, samples per block, the positions of the cues, and
+// where the sound stands.
+use crate::entries::labelled;
+use crate::entries::past;
+use riff::Spot;
+use tables::Cue;
+use tables::Cues;
+ghost use Prim.Native.Nat.{_≤_};
+ghost use lib.ListN.{length};
+
+// The position of a cue, after a blank.
+fn position(cue: Cue) {
+    show::field(b" ", cue.position.0 as u64);
+}
+
+// The positions of the cues.
+fn positions(cues: Cues) {
+    let list = cues.list;
+    let count = cues.count as usize;
+    for i in 0..64 {
+        if i < count {
+            let cue = list[i];
+            position(cue);
+        }
+    }
+}
+
+// Where the sound of a file starts, how long it is, and a number mixed of it.
+fn sound_line(file: &[u8]) {
+    let spot = reader::sound_spot(file);
+    let bytes = reader::sound_of(file);
+    show::word(b"sound ");
+    if let Spot::At(place) = spot {
+        show::field(b"at ", place.start.0 as u64);
+        show::word(b" ");
+    }
+    show::mixed_line(bytes);
+}
+
+// What the listing of a file leaves out.
+fn more_line(file: &[u8]) {
+    let reading = reader::read(file);
+    let made = reading.made;
+    let format = made.format;
+    let cues = made.cues;
+    show::field(b"align ", format.align as u64);
+    show::field(b" samples ", format.samples as u64);
+    show::word(b" positions");
+    positions(cues);
+    show::line();
+}
+
+pub fn entry(table: &[u8]) -> &[u8]
+    ensures { λ r. ⌜ length (now r) ≤ length (now (table .entry)) ⌝ }
+{
+    let rest = labelled(table, 2);
+    let size = little::u32_or_zero(rest, 0) as usize;
+    let file = riff::bytes_from(rest, 4, size);
+    listing::list(file);
+    more_line(file);
+    sound_line(file);
+    past(rest, 4 + size)
+}

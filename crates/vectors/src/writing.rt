@@ -1,0 +1,151 @@
+// Writes a record and its sound, and reads back what it wrote. An entry is fourteen numbers, the label, a `cue ` and a
+// `plst` as they stand in files, and the sound. The numbers are: the length of the label; the room in bytes, at most
+// 16,384; the lengths of the sound, the `cue ` and the `plst`; tag, channels, bits, align and samples, all in two bytes
+// each; rate, frames, and how many cues and playlist entries the record counts, in four each.
+//
+// It prints the answer; the file, or of more than 128 bytes a number mixed of them; whether the rest of the lent
+// buffer is untouched, where each byte was 170; and whether the file reads back as the record, with nothing past
+// its counts, and the sound.
+use crate::entries::labelled;
+use crate::entries::past;
+use crate::lent;
+use formats::Format;
+use rules::Record;
+use tables::Cues;
+use tables::Playlist;
+use units::Frames;
+use units::Verdict;
+use writer::Written;
+ghost use Prim.Native.Nat.{_≤_};
+ghost use lib.ListN.{length};
+
+// ---- the record of an entry
+
+// The format in the head of an entry.
+fn format_in(head: &[u8]) -> Format {
+    Format {
+        tag: little::u16_or_zero(head, 10),
+        channels: little::u16_or_zero(head, 12),
+        rate: little::u32_or_zero(head, 20),
+        bits: little::u16_or_zero(head, 14),
+        align: little::u16_or_zero(head, 16),
+        samples: little::u16_or_zero(head, 18),
+    }
+}
+
+// The cues of a `cue `, counted otherwise.
+fn cues_in(cue: &[u8], count: u32) -> Cues {
+    let cues = tables::cues_of(cue);
+    let list = cues.list;
+    Cues {
+        count: count,
+        list: list,
+    }
+}
+
+// The entries of a `plst`, counted otherwise.
+fn plays_in(plst: &[u8], count: u32) -> Playlist {
+    let playlist = tables::plays_of(plst);
+    let list = playlist.list;
+    Playlist {
+        count: count,
+        list: list,
+    }
+}
+
+// The record of an entry, with the tables of a `cue ` and a `plst`.
+fn record_in(head: &[u8], cue: &[u8], plst: &[u8]) -> Record {
+    Record {
+        format: format_in(head),
+        frames: Frames(little::u32_or_zero(head, 24)),
+        cues: cues_in(cue, little::u32_or_zero(head, 28)),
+        playlist: plays_in(plst, little::u32_or_zero(head, 32)),
+    }
+}
+
+// The same with nothing past its counts.
+fn counted_in(head: &[u8], cue: &[u8], plst: &[u8]) -> Record {
+    let cues = little::u32_or_zero(head, 28) as usize;
+    let plays = little::u32_or_zero(head, 32) as usize;
+    record_in(
+        head,
+        riff::bytes_from(cue, 0, 4 + 24 * cues),
+        riff::bytes_from(plst, 0, 4 + 12 * plays),
+    )
+}
+
+// ---- reading back
+
+// Whether the words of two records are the same.
+fn same_words(a: &[u32; 393], b: &[u32; 393]) -> bool {
+    let mut i = 0;
+    while i < 393 {
+        if a[i] != b[i] {
+            return false;
+        }
+        i += 1;
+    }
+    true
+}
+
+// Whether two records are the same, past their counts too.
+fn same_record(a: Record, b: Record) -> bool {
+    let mut words = [0u32; 393];
+    let mut words_too = [0u32; 393];
+    words::put_record(&mut words, a);
+    words::put_record(&mut words_too, b);
+    same_words(&words, &words_too)
+}
+
+// Whether a file reads back as a record and its sound.
+fn reads_back(file: &[u8], made: Record, sound: &[u8]) -> bool {
+    let reading = reader::read(file);
+    let verdict = reading.verdict;
+    let Verdict::Accepted = verdict else {
+        return false;
+    };
+    let back = reading.made;
+    same_record(back, made) && check::same(reader::sound_of(file), sound)
+}
+
+// ---- writing
+
+// What was written to a lent buffer, and whether it reads back.
+fn written_lines(size: usize, out: &[u8], made: Record, sound: &[u8]) {
+    lent::written_lines(size, out);
+    let back = reads_back(riff::bytes_from(out, 0, size), made, sound);
+    show::either(back, b"reads back", b"differs");
+}
+
+// Writes a record and its sound to a lent buffer; counted is the record with nothing past its counts.
+fn write(made: Record, counted: Record, sound: &[u8], out: &mut [u8]) {
+    match writer::write(made, sound, out) {
+        Written::Bytes(size) => written_lines(size.0, out, counted, sound),
+        Written::Refused(refusal) => lent::refused_lines(refusal, out),
+    }
+}
+
+// Writes the record of an entry and its sound.
+fn write_in(head: &[u8], cue: &[u8], plst: &[u8], sound: &[u8]) {
+    let made = record_in(head, cue, plst);
+    let counted = counted_in(head, cue, plst);
+    let mut out = [170u8; 16384];
+    let room = io::count(little::u16_or_zero(head, 2) as isize, &out);
+    write(made, counted, sound, &mut out[..room]);
+}
+
+pub fn entry(table: &[u8]) -> &[u8]
+    ensures { λ r. ⌜ length (now r) ≤ length (now (table .entry)) ⌝ }
+{
+    let sound = little::u16_or_zero(table, 4) as usize;
+    let cue = little::u16_or_zero(table, 6) as usize;
+    let plst = little::u16_or_zero(table, 8) as usize;
+    let rest = labelled(table, 36);
+    write_in(
+        table,
+        riff::bytes_from(rest, 0, cue),
+        riff::bytes_from(rest, cue, plst),
+        riff::bytes_from(rest, cue + plst, sound),
+    );
+    past(rest, cue + plst + sound)
+}
