@@ -5,7 +5,7 @@
 // It prints what refused and the number; or how many bytes the file has and a number mixed of them, the chased
 // samples, the frames decoded and a number mixed of their sound as 16-bit PCM. Before that each byte is 170 and
 // each sample 7; as many samples are lent as the sound has.
-use crate::decoding::mixed_line;
+use crate::decoding::heard_line;
 use crate::encoding::Asked;
 use crate::encoding::asked_in;
 use crate::encoding::encode_asked;
@@ -31,7 +31,7 @@ fn refused(word: &[u8], refusal: Refusal) {
 // How many frames were decoded, and the lent sound.
 fn heard_lines(frames: Frames, heard: &[i16]) {
     listing::frames(frames);
-    mixed_line(heard);
+    heard_line(heard);
 }
 
 // Decodes a file to a lent sound.

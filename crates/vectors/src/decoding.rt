@@ -7,6 +7,8 @@
 use crate::entries::labelled;
 use crate::entries::past;
 use crate::lent::count;
+use crate::lent::mixed_line;
+use crate::lent::sound_line;
 use sound::Decoded;
 ghost use Prim.Native.Nat.{_≤_};
 ghost use lib.ListN.{length};
@@ -20,37 +22,33 @@ fn answer_line(answer: Decoded) {
 }
 
 // A number mixed of a sound of at most 32,768 samples.
-pub fn mixed_line(sound: &[i16]) {
+pub fn heard_line(sound: &[i16]) {
     if 32768 < sound.len() {
         return;
     }
     let mut raw = [0u8; 65536];
     samples::to_pcm16(sound, &mut raw);
-    let bytes = riff::bytes_from(&raw, 0, 2 * sound.len());
-    show::field(b"mixed ", show::mixed_bytes(bytes));
-    show::line();
+    mixed_line(riff::bytes_from(&raw, 0, 2 * sound.len()));
 }
 
 // A lent sound.
-fn sound_line(out: &[i16]) {
+fn lent_line(out: &[i16]) {
     if 64 < out.len() {
-        mixed_line(out);
+        heard_line(out);
         return;
     }
-    show::word(b"sound");
-    show::sound(out);
-    show::line();
+    sound_line(b"sound", out);
 }
 
 // Decodes a file, or a block of it, to a lent sound.
 fn decode(file: &[u8], kind: u16, block: u32, out: &mut [i16]) {
     if kind == 0 {
         answer_line(sound::decode(file, out));
-        sound_line(out);
+        lent_line(out);
         return;
     }
     answer_line(sound::decode_block(file, block, out));
-    sound_line(out);
+    lent_line(out);
 }
 
 // Decodes a file, or a block of it, into so many samples.

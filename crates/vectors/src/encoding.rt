@@ -6,6 +6,7 @@
 use crate::copying::copy_lines;
 use crate::entries::labelled;
 use crate::entries::past;
+use crate::lent::bytes_line;
 use crate::lent::count;
 use ima::Coded;
 use ima::Encoded;
@@ -40,9 +41,7 @@ fn answer_line(answer: Encoded) {
 // A lent buffer: a number mixed of it, and its first bytes.
 fn buffer_line(out: &[u8]) {
     show::field(b"mixed ", show::mixed_bytes(out));
-    show::word(b" starts");
-    show::bytes(riff::bytes_from(out, 0, 32));
-    show::line();
+    bytes_line(b" starts", riff::bytes_from(out, 0, 32));
 }
 
 // Codes a sound to a lent buffer.

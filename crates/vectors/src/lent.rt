@@ -16,15 +16,33 @@ pub fn count(n: usize, sound: &[i16]) -> usize
     n
 }
 
+// Bytes after a word.
+pub fn bytes_line(word: &[u8], bytes: &[u8]) {
+    show::word(word);
+    show::bytes(bytes);
+    show::line();
+}
+
+// Samples after a word.
+pub fn sound_line(word: &[u8], sound: &[i16]) {
+    show::word(word);
+    show::sound(sound);
+    show::line();
+}
+
+// A number mixed of bytes.
+pub fn mixed_line(bytes: &[u8]) {
+    show::field(b"mixed ", show::mixed_bytes(bytes));
+    show::line();
+}
+
 // A file, or of more than 128 bytes a number mixed of them.
 fn file_line(file: &[u8]) {
     if 128 < file.len() {
-        show::field(b"mixed ", show::mixed_bytes(file));
-    } else {
-        show::word(b"file");
-        show::bytes(file);
+        mixed_line(file);
+        return;
     }
-    show::line();
+    bytes_line(b"file", file);
 }
 
 // Whether what nothing was written to is as it was.

@@ -1,7 +1,16 @@
 // The numbers at each place of bytes, and what a buffer holds after a piece is put into it.
 use crate::entries::past;
+use crate::lent::bytes_line;
 ghost use Prim.Native.Nat.{_+_, _≤_};
 ghost use lib.ListN.{length};
+
+// A place and the numbers there.
+fn numbers_line(word: &[u8], at: usize, small: u16, large: u32) {
+    show::field(word, at as u64);
+    show::field(b" u16 ", small as u64);
+    show::field(b" u32 ", large as u64);
+    show::line();
+}
 
 // The numbers at a place with room for both.
 fn inside(bytes: &[u8], at: usize) {
@@ -11,18 +20,14 @@ fn inside(bytes: &[u8], at: usize) {
     if bytes.len() - 4 < at {
         return;
     }
-    show::field(b"inside ", at as u64);
-    show::field(b" u16 ", little::u16_at(bytes, at) as u64);
-    show::field(b" u32 ", little::u32_at(bytes, at) as u64);
-    show::line();
+    let small = little::u16_at(bytes, at);
+    numbers_line(b"inside ", at, small, little::u32_at(bytes, at));
 }
 
 // The numbers at any place.
 fn anywhere(bytes: &[u8], at: usize) {
-    show::field(b"anywhere ", at as u64);
-    show::field(b" u16 ", little::u16_or_zero(bytes, at) as u64);
-    show::field(b" u32 ", little::u32_or_zero(bytes, at) as u64);
-    show::line();
+    let small = little::u16_or_zero(bytes, at);
+    numbers_line(b"anywhere ", at, small, little::u32_or_zero(bytes, at));
 }
 
 // The numbers at each place of 24 bytes, and at some past the end.
@@ -66,9 +71,7 @@ fn buffer_line(out: &mut [u8], at: usize, piece: &[u8]) {
         return;
     }
     put(out, at, piece);
-    show::word(b"buffer");
-    show::bytes(out);
-    show::line();
+    bytes_line(b"buffer", out);
 }
 
 // The same in a buffer that holds at most 160 bytes.

@@ -3,6 +3,8 @@
 // It prints them as 16-bit and as 8-bit sound and the sound's bytes again, numbers held to 16 bits, and for all 65,536
 // samples and all 256 values of 8-bit sound numbers that are mixed of them in order.
 use crate::entries::past;
+use crate::lent::bytes_line;
+use crate::lent::sound_line;
 ghost use Prim.Native.Nat.{_≤_};
 ghost use lib.ListN.{length};
 
@@ -38,9 +40,7 @@ fn sixteen(bytes: &[u8], out: &mut [i16]) {
         return;
     }
     samples::from_pcm16(bytes, out);
-    show::word(b"sixteen");
-    show::sound(out);
-    show::line();
+    sound_line(b"sixteen", out);
 }
 
 fn eight(bytes: &[u8], out: &mut [i16]) {
@@ -48,9 +48,7 @@ fn eight(bytes: &[u8], out: &mut [i16]) {
         return;
     }
     samples::from_pcm8(bytes, out);
-    show::word(b"eight");
-    show::sound(out);
-    show::line();
+    sound_line(b"eight", out);
 }
 
 fn bytes_of(sound: &[i16], out: &mut [u8]) {
@@ -58,9 +56,7 @@ fn bytes_of(sound: &[i16], out: &mut [u8]) {
         return;
     }
     samples::to_pcm16(sound, out);
-    show::word(b"bytes");
-    show::bytes(out);
-    show::line();
+    bytes_line(b"bytes", out);
 }
 
 fn one(bytes: &[u8], at: usize, out: &mut [u8]) {
@@ -77,8 +73,7 @@ fn one(bytes: &[u8], at: usize, out: &mut [u8]) {
     samples::put_sample(out, 3, sample);
     show::word(b"one ");
     show::sample(sample);
-    show::bytes(out);
-    show::line();
+    bytes_line(b"", out);
 }
 
 fn held(text: &[u8], value: i32) {
