@@ -6,16 +6,13 @@
 // It prints the answer; the file, or of more than 128 bytes a number mixed of them; whether the rest of the lent
 // buffer is untouched, where each byte was 170; and of a song that was added the number of the refusal when the same
 // is asked of the new side, in 16,384 bytes, or 0 where it is accepted again.
-use crate::entries::labelled;
-use crate::entries::past;
+use crate::entries::label;
 use crate::lent::refused_lines;
 use crate::lent::written_lines;
 use side::Added;
 use units::Donation;
 use units::Frames;
 use writer::Written;
-ghost use Prim.Native.Nat.{_≤_};
-ghost use lib.ListN.{length};
 
 // The number of a refusal, or 0 for a new side.
 fn number_of(added: Added) -> u64 {
@@ -78,16 +75,14 @@ fn work_in(head: &[u8], old: &[u8], song: &[u8]) {
     work(head, old, song, &mut out[..room]);
 }
 
-pub fn entry(table: &[u8]) -> &[u8]
-    ensures { λ r. ⌜ length (now r) ≤ length (now (table .entry)) ⌝ }
-{
+pub fn entry(table: &[u8]) -> usize {
     let old = little::u16_or_zero(table, 4) as usize;
     let song = little::u16_or_zero(table, 6) as usize;
-    let rest = labelled(table, 16);
+    let at = label(table, 16);
     work_in(
         table,
-        riff::bytes_from(rest, 0, old),
-        riff::bytes_from(rest, old, song),
+        riff::bytes_from(table, at, old),
+        riff::bytes_from(table, at + old, song),
     );
-    past(rest, old + song)
+    at + old + song
 }

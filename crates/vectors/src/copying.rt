@@ -9,8 +9,7 @@ use crate::decoding::heard_line;
 use crate::encoding::Asked;
 use crate::encoding::asked_in;
 use crate::encoding::encode_asked;
-use crate::entries::labelled;
-use crate::entries::past;
+use crate::entries::label;
 use crate::lent::count;
 use ima::Coded;
 use ima::Encoded;
@@ -19,8 +18,6 @@ use sound::Decoded;
 use units::Frames;
 use units::Refusal;
 use writer::Written;
-ghost use Prim.Native.Nat.{_≤_};
-ghost use lib.ListN.{length};
 
 // A refusal, after the word for what refused.
 fn refused(word: &[u8], refusal: Refusal) {
@@ -96,12 +93,13 @@ pub fn copy_lines(answer: Encoded, asked: Asked, n: usize, out: &[u8]) {
     }
 }
 
-pub fn entry(table: &[u8]) -> &[u8]
-    ensures { λ r. ⌜ length (now r) ≤ length (now (table .entry)) ⌝ }
-{
+pub fn entry(table: &[u8]) -> usize {
     let size = little::u16_or_zero(table, 8) as usize;
     let rate = little::u32_or_zero(table, 10);
-    let rest = labelled(table, 14);
-    encode_asked(riff::bytes_from(rest, 0, size), asked_in(table, rate, true));
-    past(rest, size)
+    let at = label(table, 14);
+    encode_asked(
+        riff::bytes_from(table, at, size),
+        asked_in(table, rate, true),
+    );
+    at + size
 }

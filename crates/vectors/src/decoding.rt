@@ -4,14 +4,11 @@
 //
 // It prints the answer and the lent sound; of more than 64 samples a number mixed of them as 16-bit PCM. Before that
 // each sample is 7.
-use crate::entries::labelled;
-use crate::entries::past;
+use crate::entries::label;
 use crate::lent::count;
 use crate::lent::mixed_line;
 use crate::lent::sound_line;
 use sound::Decoded;
-ghost use Prim.Native.Nat.{_≤_};
-ghost use lib.ListN.{length};
 
 // The answer of decoding.
 fn answer_line(answer: Decoded) {
@@ -58,14 +55,12 @@ fn decode_in(file: &[u8], kind: u16, block: u32, room: usize) {
     decode(file, kind, block, &mut out[..n]);
 }
 
-pub fn entry(table: &[u8]) -> &[u8]
-    ensures { λ r. ⌜ length (now r) ≤ length (now (table .entry)) ⌝ }
-{
+pub fn entry(table: &[u8]) -> usize {
     let kind = little::u16_or_zero(table, 2);
     let block = little::u32_or_zero(table, 4);
     let room = little::u16_or_zero(table, 8) as usize;
     let size = little::u16_or_zero(table, 10) as usize;
-    let rest = labelled(table, 12);
-    decode_in(riff::bytes_from(rest, 0, size), kind, block, room);
-    past(rest, size)
+    let at = label(table, 12);
+    decode_in(riff::bytes_from(table, at, size), kind, block, room);
+    at + size
 }

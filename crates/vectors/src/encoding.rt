@@ -4,14 +4,11 @@
 // It prints the answer, a number mixed of the lent buffer and the buffer's first 32 bytes. Before that each byte is
 // 170.
 use crate::copying::copy_lines;
-use crate::entries::labelled;
-use crate::entries::past;
+use crate::entries::label;
 use crate::lent::bytes_line;
 use crate::lent::count;
 use ima::Coded;
 use ima::Encoded;
-ghost use Prim.Native.Nat.{_≤_};
-ghost use lib.ListN.{length};
 
 // What an entry asks for. A copy goes on with the blocks.
 pub struct Asked {
@@ -84,11 +81,9 @@ pub fn asked_in(head: &[u8], rate: u32, copied: bool) -> Asked {
     }
 }
 
-pub fn entry(table: &[u8]) -> &[u8]
-    ensures { λ r. ⌜ length (now r) ≤ length (now (table .entry)) ⌝ }
-{
+pub fn entry(table: &[u8]) -> usize {
     let size = little::u16_or_zero(table, 8) as usize;
-    let rest = labelled(table, 10);
-    encode_asked(riff::bytes_from(rest, 0, size), asked_in(table, 0, false));
-    past(rest, size)
+    let at = label(table, 10);
+    encode_asked(riff::bytes_from(table, at, size), asked_in(table, 0, false));
+    at + size
 }

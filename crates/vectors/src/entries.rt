@@ -14,13 +14,13 @@ pub fn past(bytes: &[u8], n: usize) -> &[u8]
     &bytes[n..]
 }
 
-// Prints the label of the first entry, on a line of its own, and hands out what follows it.
-pub fn labelled(table: &[u8], head: u16) -> &[u8]
-    ensures { λ r. ⌜ length (now r) ≤ length (now (table .entry)) ⌝ }
+// Prints the label that follows a head, on a line of its own, and answers where it ends.
+pub fn label(table: &[u8], head: u16) -> usize
+    ensures { λ r. ⌜ r ≤ 131070 ⌝ }
 {
     let from = head as usize;
     let size = little::u16_or_zero(table, 0) as usize;
     show::word(riff::bytes_from(table, from, size));
     show::line();
-    past(table, from + size)
+    from + size
 }

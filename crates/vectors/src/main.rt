@@ -13,9 +13,9 @@ mod refusals;
 mod sampling;
 mod writing;
 
+use entries::past;
 use libc::STDIN_FILENO;
 ghost use mathlib.Core.Path.{_≡_};
-ghost use Prim.Native.Nat.{_-_, _≤_, _<_};
 ghost use lib.ListN.{length};
 
 // Room for the input. The `ensures` gives its length alone, so that no proof counts its bytes.
@@ -25,34 +25,27 @@ fn room() -> [u8; 524288]
     [0; 524288]
 }
 
-// Says that a byte is no operation; no entry follows it.
-fn no_operation(operation: u8, table: &[u8]) -> &[u8]
-    ensures { λ r. ⌜ length (now r) ≡ 0 ⌝ }
-{
+// Says that a byte is no operation, and skips all that follows.
+fn no_operation(operation: u8, table: &[u8]) -> usize {
     show::field(b"no operation ", operation as u64);
     show::line();
-    &table[..0]
+    table.len()
 }
 
-// Works on the first entry, and hands out those that follow.
-fn entry(table: &[u8]) -> &[u8]
-    requires { ⌜ 0 < length (now table) ⌝ }
-    ensures { λ r. ⌜ length (now r) ≤ length (now (table .entry)) - 1 ⌝ }
-{
-    let operation = table[0];
-    let body = entries::past(table, 1);
+// Works on the first entry, and answers how many bytes it has.
+fn entry(operation: u8, table: &[u8]) -> usize {
     match operation {
-        b'A' => adding::entry(body),
-        b'C' => copying::entry(body),
-        b'D' => decoding::entry(body),
-        b'E' => encoding::entry(body),
-        b'N' => numbers::entry(body),
-        b'P' => numbers::put_entry(body),
-        b'R' => reading::entry(body),
-        b'S' => sampling::entry(body),
-        b'U' => refusals::entry(body),
-        b'W' => writing::entry(body),
-        _ => no_operation(operation, body),
+        b'A' => adding::entry(table),
+        b'C' => copying::entry(table),
+        b'D' => decoding::entry(table),
+        b'E' => encoding::entry(table),
+        b'N' => numbers::entry(table),
+        b'P' => numbers::put_entry(table),
+        b'R' => reading::entry(table),
+        b'S' => sampling::entry(table),
+        b'U' => refusals::entry(table),
+        b'W' => writing::entry(table),
+        _ => no_operation(operation, table),
     }
 }
 
@@ -61,7 +54,8 @@ fn main() {
     let n = io::read_full(STDIN_FILENO, &mut buffer);
     let mut table = &buffer[..n];
     while 0 < table.len() {
-        let rest = entry(table);
-        table = rest;
+        let body = past(table, 1);
+        let size = entry(table[0], body);
+        table = past(body, size);
     }
 }

@@ -1,5 +1,4 @@
 // The numbers at each place of bytes, and what a buffer holds after a piece is put into it.
-use crate::entries::past;
 use crate::lent::bytes_line;
 ghost use Prim.Native.Nat.{_+_, _≤_};
 ghost use lib.ListN.{length};
@@ -40,11 +39,9 @@ fn each_place(bytes: &[u8]) {
 }
 
 // An entry is 24 bytes.
-pub fn entry(table: &[u8]) -> &[u8]
-    ensures { λ r. ⌜ length (now r) ≤ length (now (table .entry)) ⌝ }
-{
+pub fn entry(table: &[u8]) -> usize {
     each_place(riff::bytes_from(table, 0, 24));
-    past(table, 24)
+    24
 }
 
 // Puts a piece at a place: as a number if it has two or four bytes.
@@ -87,14 +84,12 @@ fn put_in(before: &[u8], n: u16, at: usize, piece: &[u8]) {
 
 // An entry is three numbers of two bytes, what a buffer holds before, at most 160 bytes, and the piece. The numbers
 // are the length of the buffer, that of the piece, and the place.
-pub fn put_entry(table: &[u8]) -> &[u8]
-    ensures { λ r. ⌜ length (now r) ≤ length (now (table .entry)) ⌝ }
-{
+pub fn put_entry(table: &[u8]) -> usize {
     let room = little::u16_or_zero(table, 0);
     let n = room as usize;
     let size = little::u16_or_zero(table, 2) as usize;
     let at = little::u16_or_zero(table, 4) as usize;
     let before = riff::bytes_from(table, 6, n);
     put_in(before, room, at, riff::bytes_from(table, 6 + n, size));
-    past(table, 6 + n + size)
+    6 + n + size
 }

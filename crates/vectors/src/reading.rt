@@ -3,13 +3,10 @@
 //
 // It prints the listing and what the listing leaves out: align, samples per block, the positions of the cues, and
 // where the sound stands.
-use crate::entries::labelled;
-use crate::entries::past;
+use crate::entries::label;
 use riff::Spot;
 use tables::Cue;
 use tables::Cues;
-ghost use Prim.Native.Nat.{_≤_};
-ghost use lib.ListN.{length};
 
 // The position of a cue, after a blank.
 fn position(cue: Cue) {
@@ -53,14 +50,12 @@ fn more_line(file: &[u8]) {
     show::line();
 }
 
-pub fn entry(table: &[u8]) -> &[u8]
-    ensures { λ r. ⌜ length (now r) ≤ length (now (table .entry)) ⌝ }
-{
-    let rest = labelled(table, 2);
-    let size = little::u32_or_zero(rest, 0) as usize;
-    let file = riff::bytes_from(rest, 4, size);
+pub fn entry(table: &[u8]) -> usize {
+    let at = label(table, 2);
+    let size = little::u32_or_zero(table, at) as usize;
+    let file = riff::bytes_from(table, at + 4, size);
     listing::list(file);
     more_line(file);
     sound_line(file);
-    past(rest, 4 + size)
+    at + 4 + size
 }

@@ -1,13 +1,11 @@
 // A row of document 01's table of refusals. An entry is two numbers of two bytes, the length of the meaning and the
 // row, and the meaning. It prints the row's number as `units` gives it, and the meaning; in row 0, instead of a
 // number, the largest that each unit holds.
-use crate::entries::labelled;
+use crate::entries::label;
 use units::BytePlace;
 use units::Donation;
 use units::Frames;
 use units::Refusal;
-ghost use Prim.Native.Nat.{_≤_};
-ghost use lib.ListN.{length};
 
 // The refusal of a row.
 fn refusal_in(row: u16) -> Refusal {
@@ -55,9 +53,7 @@ fn front(row: u16) {
     show::word(b" ");
 }
 
-pub fn entry(table: &[u8]) -> &[u8]
-    ensures { λ r. ⌜ length (now r) ≤ length (now (table .entry)) ⌝ }
-{
+pub fn entry(table: &[u8]) -> usize {
     front(little::u16_or_zero(table, 2));
-    labelled(table, 4)
+    label(table, 4)
 }

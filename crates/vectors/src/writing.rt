@@ -6,8 +6,7 @@
 // It prints the answer; the file, or of more than 128 bytes a number mixed of them; whether the rest of the lent
 // buffer is untouched, where each byte was 170; and whether the file reads back as the record, with nothing past
 // its counts, and the sound.
-use crate::entries::labelled;
-use crate::entries::past;
+use crate::entries::label;
 use crate::lent;
 use formats::Format;
 use rules::Record;
@@ -16,8 +15,6 @@ use tables::Playlist;
 use units::Frames;
 use units::Verdict;
 use writer::Written;
-ghost use Prim.Native.Nat.{_≤_};
-ghost use lib.ListN.{length};
 
 // ---- the record of an entry
 
@@ -134,18 +131,16 @@ fn write_in(head: &[u8], cue: &[u8], plst: &[u8], sound: &[u8]) {
     write(made, counted, sound, &mut out[..room]);
 }
 
-pub fn entry(table: &[u8]) -> &[u8]
-    ensures { λ r. ⌜ length (now r) ≤ length (now (table .entry)) ⌝ }
-{
+pub fn entry(table: &[u8]) -> usize {
     let sound = little::u16_or_zero(table, 4) as usize;
     let cue = little::u16_or_zero(table, 6) as usize;
     let plst = little::u16_or_zero(table, 8) as usize;
-    let rest = labelled(table, 36);
+    let at = label(table, 36);
     write_in(
         table,
-        riff::bytes_from(rest, 0, cue),
-        riff::bytes_from(rest, cue, plst),
-        riff::bytes_from(rest, cue + plst, sound),
+        riff::bytes_from(table, at, cue),
+        riff::bytes_from(table, at + cue, plst),
+        riff::bytes_from(table, at + cue + plst, sound),
     );
-    past(rest, cue + plst + sound)
+    at + cue + plst + sound
 }
