@@ -767,15 +767,16 @@ static void check_full_side(void)
  * The memory is only reserved: no function looks at the sound of a file that it refuses by its length. */
 static void check_too_long(void)
 {
-    const size_t limit = 1073741824;
+    const size_t limit = TRONALHET_MOST_BYTES;
+    const size_t samples = TRONALHET_MOST_SAMPLES;
     uint8_t *file = calloc(limit + 2, 1);
     CHECK(file != NULL);
     if (file == NULL)
         return;
     CHECK(tronalhet_read(file, limit + 1, NULL, 0) == 1);
     CHECK(tronalhet_read(file, limit, NULL, 0) == 2);
-    CHECK(tronalhet_encode((const int16_t *)(void *)file, limit / 2 + 1, 1, 8, NULL, 0).refusal == 1);
-    CHECK(tronalhet_encode((const int16_t *)(void *)file, limit / 2, 1, 8, NULL, 0).refusal == 14);
+    CHECK(tronalhet_encode((const int16_t *)(void *)file, samples + 1, 1, 8, NULL, 0).refusal == 1);
+    CHECK(tronalhet_encode((const int16_t *)(void *)file, samples, 1, 8, NULL, 0).refusal == 14);
 
     /* A song of the limit's length: its header, and as many frames as are left. */
     static const uint8_t size_of_riff[4] = {0xF8, 0xFF, 0xFF, 0x3F};
