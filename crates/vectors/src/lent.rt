@@ -1,5 +1,5 @@
-// What is printed of a lent buffer, each byte of which was 170 before and which has 16,384 bytes at most: the answer,
-// what was written, and whether the rest is untouched.
+// Lent buffers: how much of a sound is lent, and what is printed of a buffer. One of bytes has 16,384 at most, each of
+// which was 170 before; printed are the answer, what was written, and whether the rest is untouched.
 use crate::entries::past;
 use units::Refusal;
 ghost use mathlib.Core.Path.{_≡_};
