@@ -23,7 +23,7 @@ def vectors():
 
 
 def copied(program, *sources):
-    """The files that a program is run on, which are copies of files that stand elsewhere, and nothing else."""
+    """The files that a program is run on, and nothing else; elsewhere they are known by these names, as links."""
     there = {path.name: path.read_bytes() for path in (CRATES / program / 'data').iterdir()}
     if there != {path.name: path.read_bytes() for path in sources}:
         raise ValueError(f'the files of {program}/data are not as they stand elsewhere')
