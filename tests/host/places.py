@@ -164,8 +164,8 @@ def refusal_of(file):
 def record_of(name, file):
     """What `list` must tell a script of a file that is accepted."""
     (tag, channels, rate, bits, align, samples), frames, cues, plays, _, _ = second_reader.read(file)
-    return {'file': name, 'ok': True, 'refused': 0, 'tag': tag, 'channels': channels, 'rate': rate, 'bits': bits, 'align': align,
-            'samples_per_block': samples, 'frames': frames,
+    return {'file': name, 'ok': True, 'refused': 0, 'tag': tag, 'channels': channels, 'rate': rate, 'bits': bits,
+            'align': align, 'samples_per_block': samples, 'frames': frames,
             'cues': [{'name': name, 'position': position, 'place': place} for name, position, place in cues],
             'playlist': [{'name': name, 'length': length, 'times': times} for name, length, times in plays]}
 

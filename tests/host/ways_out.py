@@ -11,7 +11,6 @@ from vectors import side_files
 from vectors.wave_files import chunk, cue, data, entry, fact, fmt, ima, microsoft, plst, point, wave
 
 AGAIN = 'ask for the file again'
-TABLES = 'without its cues and its playlist'
 
 
 def sox(name='file.wav', before='', after='', to='file-16bit.wav'):
@@ -103,9 +102,14 @@ def others():
     yield 'half a block', wave(ima(), fact(9), data(12)), AGAIN
     yield 'IMA without fact', wave(ima(), data(8)), needs_none
     yield 'Microsoft with a wrong fact', wave(microsoft(), fact(99), data(8)), needs_none
-    yield 'a cue at F', wave(fmt(), cue(point(7, 4)), data()), f'{TABLES}: {sox()}'
-    yield 'an entry for no cue', wave(fmt(), plst(entry(7, 4)), data()), f'{TABLES}: {sox()}'
-    yield '24 bits with cues', wave(fmt(bits=24), cue(point(7, 0)), data(6)), f'{TABLES}: {sox()}'
+    yield 'a cue at F', wave(fmt(), cue(point(7, 4)), data()), f'without its cues: {sox()}'
+    yield 'a cue at F, and a playlist', wave(fmt(), cue(point(7, 4)), plst(), data()), None
+    yield 'an entry for no cue', wave(fmt(), plst(entry(7, 4)), data()), None
+    for lost, tables in (('its cues', [cue()]), ('its playlist', [plst()]),
+                         ('its cues and its playlist', [cue(), plst()])):
+        yield f'24 bits, and {lost}', wave(fmt(bits=24), *tables, data(6)), f'without {lost}: {sox()}'
+    both = wave(fmt(), cue(), plst(), data(), size=0)
+    yield 'R 0, with tables', both, f'to write the sizes anew, without its cues and its playlist: {sox()}'
     yield 'a second data', wave(fmt(), data(), data()), None
     yield 'data before fmt', wave(data(), fmt()), None
     yield 'no data', wave(fmt()), None

@@ -41,10 +41,16 @@ pub fn decoding(name: &OsStr, mark: &str) -> Option<String> {
     Some(format!("tronalhet decode {} {}", quoted(&path), quoted(&beside(&path, mark)?)))
 }
 
+/// Whether a letter can be shown as it is: it does not end the line, move the cursor or turn the direction of writing.
+fn is_plain(letter: char) -> bool {
+    let turns = matches!(letter, '\u{2028}'..='\u{202e}' | '\u{2066}'..='\u{2069}' | '\u{200e}' | '\u{200f}');
+    !letter.is_control() && !turns
+}
+
 /// A file's name as a path that no program takes for an option, a pipe or an address; none where it is standard input
 /// or cannot be shown on a line.
 fn safe_path(name: &OsStr) -> Option<String> {
-    let name = name.to_str().filter(|name| *name != "-" && !name.chars().any(char::is_control))?;
+    let name = name.to_str().filter(|name| *name != "-" && name.chars().all(is_plain))?;
     let plain = name.starts_with(|first: char| first.is_alphanumeric() || "._".contains(first)) && !name.contains(':');
     let front = if plain || name.starts_with('/') { "" } else { "./" };
     Some(format!("{front}{name}"))
@@ -103,7 +109,8 @@ mod tests {
 
     #[test]
     fn names_that_fit_on_no_line_have_none() {
-        for name in [&b"-"[..], b"a\nb.wav", b"a\x1b[2J.wav", b"a\x7f.wav", b"\xff.wav", "\u{85}.wav".as_bytes()] {
+        let text = ["-", "a\nb.wav", "a\x1b[2J.wav", "a\x7f.wav", "\u{85}.wav", "a\u{202e}vaw.wav", "a\u{2028}b.wav"];
+        for name in text.iter().map(|name| name.as_bytes()).chain([&b"\xff.wav"[..]]) {
             assert_eq!(converting(Program::Ffmpeg, OsStr::from_bytes(name), &PLAIN), None);
             assert_eq!(decoding(OsStr::from_bytes(name), "16bit"), None);
         }

@@ -28,7 +28,8 @@ pub fn way_out(refusal: Refusal, file: &[u8], name: &OsStr, wanted: Option<&Form
         Refusal::FormatWrong => source.of_format(),
         Refusal::NotWholeFrames => source.of_length(),
         Refusal::FactWrong => source.copied("for a copy that needs no fact"),
-        Refusal::CuesWrong | Refusal::PlaylistWrong => source.copied(""),
+        // A file with a playlist may be a side, which without it would be none.
+        Refusal::CuesWrong if find(file, b"plst").is_none() => source.copied(""),
         Refusal::BlockHeaderWrong => Some(ASK_AGAIN.into()),
         _ => None,
     }
@@ -136,11 +137,20 @@ impl Source<'_> {
     fn line(&self, program: Program, purpose: &str) -> Option<String> {
         let (rate, channels) = self.changed();
         let command = converting(program, self.name, &Made { mark: self.mark(), rate, channels })?;
-        let tables = [b"cue ", b"plst"].into_iter().any(|code| find_any(self.file, code).is_some());
-        let parts = [purpose, if tables { "without its cues and its playlist" } else { "" }];
+        let parts = [purpose, self.lost_tables()];
         let parts: Vec<&str> = parts.into_iter().filter(|part| !part.is_empty()).collect();
         let colon = if parts.is_empty() { "" } else { ": " };
         Some(format!("{}{colon}{command}", parts.join(", ")))
+    }
+
+    /// What the file that is made will not have.
+    fn lost_tables(&self) -> &'static str {
+        match [b"cue ", b"plst"].map(|code| find_any(self.file, code).is_some()) {
+            [true, true] => "without its cues and its playlist",
+            [true, false] => "without its cues",
+            [false, true] => "without its playlist",
+            [false, false] => "",
+        }
     }
 
     /// The rate and the channels that must be asked for, if any: those of the side, else the most that is accepted.
