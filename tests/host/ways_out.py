@@ -146,7 +146,7 @@ def ways_to_side():
             ('8 bits', side, song(bits=8), 5, 99, 9, "tronalhet decode 'song.wav' 'song-for-side.wav'"),
             ('IMA', side, wave(ima(), fact(9), data(8)), 5, 99, 9, "tronalhet decode 'song.wav' 'song-for-side.wav'"),
             ('no frames', side, song(0), 5, 99, 16, 'ask for the song again: it has no sound'),
-            ('another sound', side, song(9), 8, 99, 16, 'give another song another number'),
+            ('another sound', side, song(9), 8, 99, 16, 'if it is another song, give it another number'),
             ('the same again', side, song(3, 8), 8, 99, 18, None),
             ('too long', side, song(20), 5, 21, 17,
              'a song of at most 16 frames (0:00.002) fits; start another side for this one'),
