@@ -122,7 +122,7 @@ fn too_much(file: &[u8]) -> Option<Place> {
     whole(format!("its sound has {samples} samples, in 16 bits a file of {bytes} bytes; {most}"))
 }
 
-/// Which of the two codes in the head of a file is wrong, and what the file is if its first bytes tell that.
+/// Which of the two codes in the head of a file is wrong, and what the file is if its first bytes show that.
 fn head(file: &[u8]) -> Option<Place> {
     let start = file.get(..12)?;
     let codes = [("file code", 0, "RIFF"), ("form type", 8, "WAVE")];

@@ -162,7 +162,7 @@ def refusal_of(file):
 
 
 def record_of(name, file):
-    """What `list` must tell a script of a file that is accepted."""
+    """What `list` must report to a script on a file that is accepted."""
     (tag, channels, rate, bits, align, samples), frames, cues, plays, _, _ = second_reader.read(file)
     return {'file': name, 'ok': True, 'refused': 0, 'tag': tag, 'channels': channels, 'rate': rate, 'bits': bits,
             'align': align, 'samples_per_block': samples, 'frames': frames,

@@ -37,7 +37,7 @@ impl Kind {
         }
     }
 
-    /// The kind of a file, if its first bytes tell it.
+    /// The kind of a file, if its first bytes show it.
     pub fn of(file: &[u8]) -> Option<Kind> {
         let there = |at: usize, code: &[u8]| file.get(at..at + code.len()) == Some(code);
         let wave = |code: &[u8]| there(0, code) && there(8, b"WAVE");

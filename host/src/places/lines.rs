@@ -56,7 +56,7 @@ fn safe_path(name: &OsStr) -> Option<String> {
     Some(format!("{front}{name}"))
 }
 
-/// The name of a WAVE file in the same folder, with a mark behind its own.
+/// The name of a WAVE file in the same folder, with a mark after its own.
 fn beside(path: &str, mark: &str) -> Option<String> {
     let stem = Path::new(path).file_stem()?.to_str()?;
     Some(Path::new(path).with_file_name(format!("{stem}-{mark}.wav")).to_str()?.into())
