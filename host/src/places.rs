@@ -24,6 +24,7 @@ mod way_out;
 pub use adding::{of_adding, way_out_of_adding, Which};
 pub use chunks::Code;
 pub use left_out::left_out;
+pub use lines::is_plain;
 pub use way_out::way_out;
 
 /// A block of packed sound, counted from 1, and how many there are.

@@ -3,7 +3,7 @@ use std::ffi::{OsStr, OsString};
 use std::io;
 use std::os::unix::ffi::OsStrExt;
 use std::path::Path;
-use tronalhet::places::{of_file, way_out, Place};
+use tronalhet::places::{is_plain, of_file, way_out, Place};
 use tronalhet::{Fault, NoMemory, Refusal};
 
 pub enum Stop {
@@ -75,11 +75,10 @@ pub fn shown(name: &OsStr) -> String {
 }
 
 fn put_letter(text: &mut String, letter: char) {
-    let turns = matches!(letter, '\u{2028}'..='\u{202e}' | '\u{2066}'..='\u{2069}' | '\u{200e}' | '\u{200f}');
-    if letter.is_control() || turns {
-        text.extend(letter.escape_default());
-    } else {
+    if is_plain(letter) {
         text.push(letter);
+    } else {
+        text.extend(letter.escape_default());
     }
 }
 

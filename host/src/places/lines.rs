@@ -42,7 +42,7 @@ pub fn decoding(name: &OsStr, mark: &str) -> Option<String> {
 }
 
 /// Whether a letter can be shown as it is: it does not end the line, move the cursor or turn the direction of writing.
-fn is_plain(letter: char) -> bool {
+pub fn is_plain(letter: char) -> bool {
     let turns = matches!(letter, '\u{2028}'..='\u{202e}' | '\u{2066}'..='\u{2069}' | '\u{200e}' | '\u{200f}');
     !letter.is_control() && !turns
 }
