@@ -71,7 +71,7 @@ fn kind_in_words((code, count): &(Code, usize)) -> String {
 
 /// Prints an answer about a file, and then on standard error where the fault is, what it means and the way out of it;
 /// its exit status.
-pub fn say(name: &str, call: &Call, about: &OsStr, answer: Answer) -> u8 {
+pub fn say(call: &Call, about: &OsStr, answer: Answer) -> u8 {
     let front = if call.words.len() > 1 && call.command == "check" { format!("{}: ", shown(about)) } else { "".into() };
     let (number, status) = match &answer {
         Ok(_) => (0, 0),
@@ -88,8 +88,8 @@ pub fn say(name: &str, call: &Call, about: &OsStr, answer: Answer) -> u8 {
     } else {
         lines.iter().map(|line| format!("{front}{line}\n")).collect()
     };
-    let printed = print(name, &text);
-    remarks.iter().for_each(|line| eprint(name, line));
+    let printed = print(&text);
+    remarks.iter().for_each(|line| eprint(line));
     printed.max(status)
 }
 

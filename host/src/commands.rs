@@ -18,10 +18,10 @@ const SOUND: &[&[u8; 4]] = &[b"fmt ", b"fact", b"data"];
 const ALL: &[&[u8; 4]] = &[b"fmt ", b"fact", b"data", b"cue ", b"plst"];
 
 /// Runs a command; its exit status, of several files that of the first that is not accepted.
-pub fn run(name: &str, call: &Call) -> u8 {
+pub fn run(call: &Call) -> u8 {
     let first = &call.words[0];
     if call.command == "check" {
-        let checked = |file: &OsString| say(name, call, file, check(file, call.flag("sound")));
+        let checked = |file: &OsString| say(call, file, check(file, call.flag("sound")));
         let said: Vec<u8> = call.words.iter().map(checked).collect();
         return said.into_iter().find(|status| *status != 0).unwrap_or(0);
     }
@@ -29,10 +29,10 @@ pub fn run(name: &str, call: &Call) -> u8 {
         "list" => list(first),
         "decode" => decode(first, &call.words[1], call),
         "encode" => encode(first, &call.words[1], call),
-        "add" => add(name, call),
-        _ => new_side(name, call),
+        "add" => add(call),
+        _ => new_side(call),
     };
-    say(name, call, first, answer)
+    say(call, first, answer)
 }
 
 // ---- what is read
@@ -148,7 +148,7 @@ fn not_copied(from: &OsStr, file: &[u8], align: u16, fault: Fault) -> Stop {
     }
 }
 
-fn new_side(name: &str, call: &Call) -> Answer {
+fn new_side(call: &Call) -> Answer {
     let (to, channels, rate) = (&call.words[0], call.needed("channels") as u16, call.needed("rate"));
     let target = Target::new(to)?;
     let made = tronalhet::empty_side(channels, rate).map_err(|fault| match fault {
@@ -158,7 +158,7 @@ fn new_side(name: &str, call: &Call) -> Answer {
         }
         Fault::NoMemory(lack) => lack.into(),
     })?;
-    let _locked = target.lock_folder(|line| eprint(name, line))?;
+    let _locked = target.lock_folder(eprint)?;
     target.is_new()?;
     write(&target, to, &made, false, Told::facts(&[("bytes", made.len())]))
 }
@@ -175,7 +175,7 @@ struct Adding<'a> {
 
 /// The song is read before others are kept out, and so is a side that is no file: a pipe that nobody writes to
 /// would else keep them out for ever.
-fn add(name: &str, call: &Call) -> Answer {
+fn add(call: &Call) -> Answer {
     let adding = Adding {
         side: &call.words[0],
         song: &call.words[1],
@@ -186,7 +186,7 @@ fn add(name: &str, call: &Call) -> Answer {
     place_for_side(to, &adding, call.flag("replace"))?;
     let song = whole(adding.song)?;
     let streamed = if is_stream(adding.side) { Some(whole(adding.side)?) } else { None };
-    let locked = Target::new(to)?.lock_folder(|line| eprint(name, line))?;
+    let locked = Target::new(to)?.lock_folder(eprint)?;
     // What stands there may be another file after a wait.
     let target = place_for_side(to, &adding, call.flag("replace"))?;
     let side = streamed.map_or_else(|| whole(adding.side), Ok)?;

@@ -22,15 +22,15 @@ const TROUBLE: u8 = 74;
 fn main() -> ExitCode {
     system::size_limit_is_an_error();
     if system::output_is_closed() {
-        eprint(NAME, "standard output is closed; nothing was done");
+        eprint("standard output is closed; nothing was done");
         return ExitCode::from(TROUBLE);
     }
     let status = match call::asked(std::env::args_os().skip(1).collect()) {
-        Ok(call::Asked::Text(text)) => shown::print(NAME, &text),
-        Ok(call::Asked::Run(call)) => commands::run(NAME, &call),
+        Ok(call::Asked::Text(text)) => shown::print(&text),
+        Ok(call::Asked::Run(call)) => commands::run(&call),
         Err(wrong) => {
-            eprint(NAME, &wrong.what);
-            eprint("usage", &wrong.usage);
+            eprint(&wrong.what);
+            eprint_after("usage", &wrong.usage);
             USAGE
         }
     };
@@ -38,6 +38,11 @@ fn main() -> ExitCode {
 }
 
 /// A line on standard error; where that cannot be written, it can be reported nowhere.
-fn eprint(name: &str, line: &str) {
-    let _ = writeln!(std::io::stderr(), "{name}: {line}");
+fn eprint_after(word: &str, line: &str) {
+    let _ = writeln!(std::io::stderr(), "{word}: {line}");
+}
+
+/// The same under the command's own name.
+fn eprint(line: &str) {
+    eprint_after(NAME, line);
 }

@@ -50,13 +50,13 @@ fn quoted(out: &mut fmt::Formatter, text: &str) -> fmt::Result {
 
 /// Prints to standard output, all at once. What is done is done: where it cannot be shown, standard error says it. Who
 /// closes a pipe wants no more, so that is no error.
-pub fn print(name: &str, text: &str) -> u8 {
+pub fn print(text: &str) -> u8 {
     let mut out = std::io::stdout().lock();
     match out.write_all(text.as_bytes()).and_then(|()| out.flush()) {
         Ok(()) => 0,
         Err(error) if error.kind() == ErrorKind::BrokenPipe => 0,
         Err(_) => {
-            eprint(name, &format!("cannot write to standard output: {}", text.lines().next().unwrap_or_default()));
+            eprint(&format!("cannot write to standard output: {}", text.lines().next().unwrap_or_default()));
             TROUBLE
         }
     }

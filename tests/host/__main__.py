@@ -8,6 +8,7 @@ walk of tests/host/places.py. The largest files are made on the fly, in a folder
 again. Permissions are tried as a user whom they stop. On another processor than x86-64 an emulator runs the command,
 and memory and time have no bounds.
 """
+import multiprocessing
 import sys
 
 from host.building import (built, built_again, changed_meanwhile, counted, handed_over, killed_build, not_built,
@@ -26,24 +27,33 @@ from host.trouble import (devices, hidden_folder, links, modes, new_names, no_me
 from host.wave import by_wave, demonstration, readme, story
 from host.ways_out import three_lines, ways_out, ways_out_by_name, ways_to_side
 from host.writing import flushed, full_disk, living_parts, no_parts, past_a_limit, really_full_disk
-from trying import expect, report
+from trying import WRONG, expect, report
 
-PARTS = (on_files, on_kept_sides, records, checked, glanced, placed, block_places, wrong_files, wrong_songs,
-         other_refusals, ways_out, ways_to_side, ways_out_by_name, three_lines, names, for_scripts, from_input,
-         slow_input, called_wrongly, no_numbers, called, helps, json_page, not_read, not_written, special_files,
-         same_file, links, new_names, modes, not_allowed, shared, devices, hidden_folder, not_shown, no_memory,
-         full_disk, really_full_disk, past_a_limit, living_parts, no_parts, flushed, not_replaced, other_sounds,
-         backups, kept_twice, links_of_backups, several_names, closed_streams, closed_pipes, names_on_one_line,
-         stuck_songs, waits, elsewhere, ten_adds, ten_sides, many_decodes, handed_over, own_words, playing, built,
-         built_again, changed_meanwhile, not_built, counted, two_builds, killed_build, everything, not_installed,
-         installed_command, compiled, man_page, completed, by_wave, story, demonstration, readme, full_size)
+# Those that take longest come first, as the parts are run side by side.
+PARTS = (full_size, on_files, two_builds, many_decodes, placed, glanced, on_kept_sides, records, checked, block_places,
+         wrong_files, wrong_songs, other_refusals, ways_out, ways_to_side, ways_out_by_name, three_lines, names,
+         for_scripts, from_input, slow_input, called_wrongly, no_numbers, called, helps, json_page, not_read,
+         not_written, special_files, same_file, links, new_names, modes, not_allowed, shared, devices, hidden_folder,
+         not_shown, no_memory, full_disk, really_full_disk, past_a_limit, living_parts, no_parts, flushed, not_replaced,
+         other_sounds, backups, kept_twice, links_of_backups, several_names, closed_streams, closed_pipes,
+         names_on_one_line, stuck_songs, waits, elsewhere, ten_adds, ten_sides, handed_over, own_words, playing, built,
+         built_again, changed_meanwhile, not_built, counted, killed_build, everything, not_installed, installed_command,
+         compiled, man_page, completed, by_wave, story, demonstration, readme)
+
+
+def alone(part):
+    """What is wrong in one part."""
+    WRONG.clear()
+    attempted(part)
+    return WRONG
 
 
 def main():
     """Runs all parts, where the command is built."""
     expect('whether the command is there, which host/build makes', PROGRAM.exists(), True)
-    for part in PARTS if PROGRAM.exists() else ():
-        attempted(part)
+    with multiprocessing.Pool() as pool:
+        found = pool.map(alone, PARTS if PROGRAM.exists() else (), chunksize=1)
+    WRONG.extend(wrong for part in found for wrong in part)
     return report('tests/host')
 
 
