@@ -60,7 +60,7 @@ def really_full_disk():
 def swept(label, folder):
     """The next run in a folder is not hindered by what is left of another, and removes it."""
     put(folder / 'next song.wav', SONG)
-    status, _, said = run([*HOST, 'decode', 'next song.wav', 'next.wav'], folder)
+    status, _, said = run([*HOST, 'decode', 'next song.wav', 'next.wav', '--replace'], folder)
     expect(f'{label}, the next run', (status, said, parts(folder)), (0, '', []))
     expect(f'{label}, what it writes', (folder / 'next.wav').read_bytes(), DECODED[1])
 
