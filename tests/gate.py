@@ -76,7 +76,8 @@ def hidden(edit, texts):
             yield f'has wrong programs in {name} and in {other}, which it calls, so one could hide the other'
     for name, olds in programs:
         for other, text in texts.items():
-            if other != name and any(old in text for old in olds) and not any(old in texts.get(name, '') for old in olds):
+            own = texts.get(name, '')
+            if other != name and any(old in text for old in olds) and not any(old in own for old in olds):
                 yield f'says {name}, and replaces what stands in {other}'
 
 
@@ -99,7 +100,8 @@ def first_error(lines, name):
     """The first error in the proof of a function, or of a theorem."""
     of_function = re.compile(rf'/proofs/(\S*/)?{re.escape(name)}/Proof\.antt:')
     errors = [line for line in lines if ERROR.search(line)]
-    return next((line for line in errors if of_function.search(line) or f'error: `{name}`:' in line), 'no error in its log')
+    of_name = (line for line in errors if of_function.search(line) or f'error: `{name}`:' in line)
+    return next(of_name, 'no error in its log')
 
 
 def unfit_edits(root):

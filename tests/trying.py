@@ -104,7 +104,7 @@ def empty_for(song):
     return second_side.empty(channels, rate)[1]
 
 
-# ---- two adds at a time
+# ---- programs that are not waited for
 
 def start(words, folder, **options):
     """Starts a program, in a group of processes that can be killed as one."""
@@ -121,36 +121,3 @@ def opened(pipe):
         except OSError:
             time.sleep(0.01)
     raise TimeoutError(f'no program reads {pipe}')
-
-
-def overlapping(label, name, add, out, killed, wanted):
-    """An add has read the side and waits for its song, and is killed so; a second add starts, and then the song comes.
-
-    The second knows the side by another path. The name is the one under which the program speaks; `add` gives the words
-    of a call that adds a song to a side under a number. What is wanted: what the two say, whether the second says that
-    it waits, and the songs of the side in the end.
-    """
-    with tempfile.TemporaryDirectory() as room:
-        folder = pathlib.Path(room)
-        (folder / '-sides').mkdir()
-        put(folder / out, EMPTY)
-        put(folder / 'song.wav', make.files()['harbour-song.wav'])
-        os.mkfifo(folder / 'pipe')
-        with start(add(out, 'pipe', 1), folder) as first:
-            pipe = opened(folder / 'pipe')
-            killed(first)
-            with start(add(folder / out, folder / 'song.wav', 2), '/') as second:
-                # It says that it waits, or ends without a word; if it did not wait, it would soon be done.
-                said = second.stderr.readline()
-                time.sleep(0.3)
-                try:
-                    os.write(pipe, SONG)
-                except BrokenPipeError:
-                    pass
-                os.close(pipe)
-                told = first.communicate(timeout=60)[0], second.communicate(timeout=60)[0]
-        waiting = f'{name}: waiting for another add in {(folder / out).parent}/\n'
-        expect(f'{label}, what the adds say', (told, said), (wanted[0], waiting if wanted[1] else ''))
-        songs = [song.number for song in second_side.songs((folder / out).read_bytes())]
-        expect(f'{label}, the songs of the side', songs, wanted[2])
-        expect(f'{label}, the files', sorted(kept(folder)), sorted(['-sides', out, 'pipe', 'song.wav']))

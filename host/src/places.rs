@@ -114,7 +114,7 @@ pub fn of_length(bytes: u64) -> Option<Place> {
     whole(format!("it has {bytes} bytes; 12 to {MOST_BYTES} are accepted"))
 }
 
-/// Why a file that reading accepts is not decoded or encoded: its sound is too long for a 16-bit file, or for the codec.
+/// Why a file that reading accepts is not decoded or encoded: its sound is too long for a 16-bit file or for the codec.
 fn too_much(file: &[u8]) -> Option<Place> {
     let record = operations::read(file).ok()?;
     let samples = operations::samples_in(record.frames, &record.format);

@@ -128,7 +128,7 @@ def too_long(folder):
 
 
 def in_parts(folder):
-    """A sound of 8 bits is encoded without being in memory as a whole in 16; silence gives blocks that are all alike."""
+    """A sound of 8 bits is encoded without being in memory as a whole in 16; silence gives blocks that are alike."""
     size, block = 100000000, second_ima.encode([-32768] * 2041, 1, 1024, MOST)[0]
     blocks = -(-(size - 44) // 2041)
     sparse(folder / 'eight.wav', size, head_of(size))

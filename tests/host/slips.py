@@ -1,9 +1,9 @@
-"""Nothing is lost by a slip of a person: what is there is not replaced, what is replaced can be kept, and what is odd is
-said."""
+"""Nothing is lost by a slip of a person: what is there is not replaced, what is replaced can be kept, and what is odd
+is said."""
 import os
 import subprocess
 
-from host.run import (ADDED, ADDED_SONG, DECODED, FILES, HOST, IN_PLACE, KNOWN, NEW, OF_SOUND, OTHER, added, adds, does,
+from host.run import (ADDED, ADDED_SONG, DECODED, FILES, HOST, IN_PLACE, KNOWN, OF_SOUND, OTHER, added, adds, does,
                       left_out, parts, reading, replacing, tells, writing)
 from host.trouble import trouble
 from trying import EMPTY, SONG, expect, holding, kept, put, run
@@ -56,7 +56,8 @@ def other_sounds():
         tells(f'{call[0]}, chunks that are left out, for scripts', call, {'song.wav': song},
               (0, [('song.wav', code, count) for code, count in
                    [('LIST', 2), ('bext', 1), ('\\x01\\"\\n\\\\', 1), *tables]]),
-              lambda told: [(one['file'], one['chunk'], one['count']) for one in told['left_out']], {'new.wav': made[1]})
+              lambda told: [(one['file'], one['chunk'], one['count']) for one in told['left_out']],
+              {'new.wav': made[1]})
 
 
 # ---- what is replaced can be kept
@@ -74,9 +75,10 @@ def backups():
          (ADDED_SONG[0], {'old': ADDED_SONG[1], 'old.1': b'old'}))
     does('a backup by a link', ['add', 'link', 'song.wav', *ADDED, '--backup'], {**FILES, 'link': 'side.wav'},
          (ADDED_SONG[0], {'side.wav': ADDED_SONG[1], 'side.wav.1': EMPTY}))
-    does('nothing to be kept', [*IN_PLACE, '--out=new.wav', '--backup'], FILES, (ADDED_SONG[0], {'new.wav': ADDED_SONG[1]}))
-    does('a refusal keeps nothing', [*IN_PLACE[:3], '--number=7', '--limit=1', '--backup'], FILES, (['refused 17'], None),
-         'side.wav')
+    does('nothing to be kept', [*IN_PLACE, '--out=new.wav', '--backup'], FILES,
+         (ADDED_SONG[0], {'new.wav': ADDED_SONG[1]}))
+    does('a refusal keeps nothing', [*IN_PLACE[:3], '--number=7', '--limit=1', '--backup'], FILES,
+         (['refused 17'], None), 'side.wav')
     long = 'n' * 254
     trouble('a backup with too long a name', ['add', long, 'song.wav', *ADDED, '--backup'], {**FILES, long: EMPTY},
             'cannot write ')
@@ -165,7 +167,7 @@ def names_on_one_line():
         with holding({name: SONG, 'side.wav': EMPTY, 'none.wav': b''}) as folder:
             ended = run([*HOST, 'check', name, 'none.wav'], folder)
             expect(f'check {name!a}', (ended[0], ended[1]), (1, f'{shown}: accepted\nnone.wav: refused 1\n'))
-            for words in (['list', f'{name}-'], ['decode', name, f'{name}/x'], ['decode', name, name], ['list', name, name],
-                          ['add', 'side.wav', name, '--number', name, '--limit=1'], [name]):
+            for words in (['list', f'{name}-'], ['decode', name, f'{name}/x'], ['decode', name, name],
+                          ['list', name, name], ['add', 'side.wav', name, '--number', name, '--limit=1'], [name]):
                 _, lines, said = run([*HOST, *words], folder)
                 expect(f'{words!a}', (lines, shown in said, name in said and name != shown), ('', True, False))

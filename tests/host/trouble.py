@@ -8,8 +8,8 @@ import shutil
 import socket
 import tempfile
 
-from host.run import (ADDED, ADDED_SONG, DECODED, FILES, HOST, IN_PLACE, NATIVE, NEW, PROGRAM, does, picked, reading, replacing,
-                      writing)
+from host.run import (ADDED, ADDED_SONG, DECODED, FILES, HOST, IN_PLACE, NATIVE, NEW, PROGRAM, does, picked, reading,
+                      replacing, writing)
 from trying import EMPTY, ROOT, SONG, expect, holding, kept, limited, printed, put, run, tried
 from second import command as second_command, reader as second_reader
 from second.command import answer
@@ -230,7 +230,8 @@ def no_memory():
         return
     files = {'file.wav': wave(fmt(bits=8), data(20000000)), 'side.wav': EMPTY, 'old.wav': b'old'}
     for words, enough in ((['list', 'file.wav'], 0), (['decode', 'file.wav', 'old.wav', '--replace'], 0),
-                          (['encode', 'file.wav', 'old.wav', '--replace'], 0), (['add', 'side.wav', 'file.wav', *ADDED], 9)):
+                          (['encode', 'file.wav', 'old.wav', '--replace'], 0),
+                          (['add', 'side.wav', 'file.wav', *ADDED], 9)):
         with holding(files) as folder:
             status, ended = 74, []
             for size in range(8 << 20, 200 << 20, 4 << 20):

@@ -31,14 +31,6 @@ def opened(file):
     return form, songs
 
 
-def is_side(file):
-    try:
-        opened(file)
-    except Refused:
-        return False
-    return True
-
-
 def songs(file):
     """The songs of a side, in order."""
     return opened(file)[1]

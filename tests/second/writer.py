@@ -62,7 +62,7 @@ def plays_fine(record):
 
 
 def refusal(record, length):
-    """The number that a record with so many bytes of sound gets by **Writing**, but for 1 and 14; None for a good one."""
+    """The number that a record with so many bytes of sound gets by **Writing**, but for 1 and 14; None if accepted."""
     tag, _, _, _, align, samples = record.form
     if not format_fine(*record.form):
         return 9
@@ -135,7 +135,7 @@ def unseen(record, length):
 
 
 def check(record, sound):
-    """Stops where the second reader says otherwise: of a written file its record and sound, of a refused one the number."""
+    """Stops where the second reader says otherwise: of a written file record and sound, of a refused one the number."""
     number, file = refusal(record, len(sound)), file_of(record, sound)
     try:
         form, frames, cues, plays, _, heard = second_reader.read(file)

@@ -70,7 +70,8 @@ def copies():
     chance = random.Random(4)
     for frames, blocks in ((505, 1), (506, 2), (1300, 3)):
         yield copy(f'{frames} frames, 505 a block', blocks, some_sound(chance, frames), 1, 256, 22050)
-        yield copy(f'{frames} frames of two channels, 505 a block', blocks, some_sound(chance, 2 * frames), 2, 512, 48000)
+        yield copy(f'{frames} frames of two channels, 505 a block', blocks, some_sound(chance, 2 * frames), 2, 512,
+                   48000)
     yield copy('300 frames of align 4096', 1, some_sound(chance, 300), 1, 4096, 192000)
     yield copy('300 frames of two channels and align 4096', 1, some_sound(chance, 600), 2, 4096, 1)
 

@@ -67,7 +67,8 @@ def puts():
     """Pieces put into one buffer in turn, and runs of bytes copied, each into a buffer of its own."""
     buffer = b'\xaa' * 10
     for at, piece in [(10, b''), (3, b'side A'), (6, struct.pack('<I', 305419896)), (0, struct.pack('<I', 4294967295)),
-                      (8, struct.pack('<H', 32768)), (1, struct.pack('<H', 258)), (0, bytes.fromhex('00ff01807f0203040506'))]:
+                      (8, struct.pack('<H', 32768)), (1, struct.pack('<H', 258)),
+                      (0, bytes.fromhex('00ff01807f0203040506'))]:
         vector, buffer = put(buffer, at, piece)
         yield vector
     # from 80 bytes on a copy takes the first few by themselves, and then 64 at a turn
@@ -81,7 +82,8 @@ def samples():
     """One sound, as 16-bit and as 8-bit PCM; what is held to 16 bits; all samples and all values of 8 bits."""
     borders = [0, 1, -1, 127, 128, -128, -129, 255, 256, -255, -256, -257, 12345, -12345,
                32766, 32767, -32766, -32767, -32768, 4660]
-    # 71 samples and 143 bytes: the loop for 16 bits takes 32 samples at a turn, that for 8 bits 64 bytes, and both have a rest
+    # 71 samples and 143 bytes: the loop for 16 bits takes 32 samples at a turn, that for 8 bits 64 bytes, and both have
+    # a rest.
     sound = borders + [k * 7919 % 65536 - 32768 for k in range(71 - len(borders))]
     data = struct.pack(f'<{len(sound)}h', *sound) + b'\x99'
     short = sound + [7] * (80 - len(sound))

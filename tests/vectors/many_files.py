@@ -1,11 +1,11 @@
-"""Many files near the borders of reading: the files of wave_files.py, damaged in all the ways that files get damaged."""
+"""Many files near the borders of reading: those of wave_files.py, damaged in all the ways that files get damaged."""
 import random
 import struct
 
 from vectors import wave_files
 
-VALUES = [0, 1, 2, 3, 4, 7, 8, 15, 16, 17, 18, 20, 32, 50, 63, 64, 65, 255, 256, 4096, 4097, 32768, 65535, 192000, 192001,
-          178956971, 357913942, 2**29, 2**31 - 1, 2**31, 2**32 - 8, 2**32 - 2, 2**32 - 1]
+VALUES = [0, 1, 2, 3, 4, 7, 8, 15, 16, 17, 18, 20, 32, 50, 63, 64, 65, 255, 256, 4096, 4097, 32768, 65535, 192000,
+          192001, 178956971, 357913942, 2**29, 2**31 - 1, 2**31, 2**32 - 8, 2**32 - 2, 2**32 - 1]
 CODES = [b'fmt ', b'data', b'fact', b'cue ', b'plst', b'LIST', b'junk']
 
 
@@ -14,7 +14,8 @@ def rich():
     points, entries = [wave_files.point(7, 0), wave_files.point(8, 3)], [wave_files.entry(8, 1), wave_files.entry(7, 2)]
     cue, plst, data = wave_files.cue(*points), wave_files.plst(*entries), wave_files.data
     yield wave_files.wave(wave_files.fmt(), cue, plst, data())
-    yield wave_files.wave(wave_files.ima(2, 16, 9), wave_files.fact(12), cue, plst, wave_files.chunk(b'LIST', b'INFOabc'), data(32))
+    title = wave_files.chunk(b'LIST', b'INFOabc')
+    yield wave_files.wave(wave_files.ima(2, 16, 9), wave_files.fact(12), cue, plst, title, data(32))
     yield wave_files.wave(wave_files.microsoft(2, 17, 5), plst, cue, wave_files.fact(6), data(34))
     many = range(64)
     yield wave_files.wave(wave_files.fmt(channels=2, bits=8), wave_files.fact(1), data(),

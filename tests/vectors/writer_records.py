@@ -204,7 +204,8 @@ def junk():
     yield writing('an entry of 0, as past the count', 13, pcm(), cues=ONE, plays=[(0, 1, 1)])
     yield writing('an entry and no cue but junk', 13, pcm(), cues=ONE, plays=[(7, 1, 1)], cue_count=0)
     yield writing('junk in the 64th place', 52 + 12 + 24 * 63, pcm(), cues=tables(63, 4)[0] + [(7, 0, 4)], cue_count=63)
-    yield writing('IMA, junk past both', 128, ima(), cues=ONE + bad, plays=[(7, 9, 1)] + worse, cue_count=1, play_count=1)
+    yield writing('IMA, junk past both', 128, ima(), cues=ONE + bad, plays=[(7, 9, 1)] + worse, cue_count=1,
+                  play_count=1)
 
 
 def wrong_formats():
@@ -398,8 +399,8 @@ def orders():
 
 
 def all_vectors():
-    return [*examples(), *formats(), *lengths(), *averages(), *long_tables(), *junk(), *wrong_formats(), *wrong_blocks(),
-            *wrong_lengths(), *wrong_frames(), *wrong_cues(), *wrong_plays(), *rooms(), *orders()]
+    return [*examples(), *formats(), *lengths(), *averages(), *long_tables(), *junk(), *wrong_formats(),
+            *wrong_blocks(), *wrong_lengths(), *wrong_frames(), *wrong_cues(), *wrong_plays(), *rooms(), *orders()]
 
 
 def some_record(chance):

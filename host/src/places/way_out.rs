@@ -133,7 +133,7 @@ impl Source<'_> {
         }
     }
 
-    /// The line that makes a 16-bit file beside this one, after what it is for. It comes last, so that it can be copied.
+    /// What a line is for, and then the line that makes a 16-bit file beside this one: last, so that it can be copied.
     fn line(&self, program: Program, purpose: &str) -> Option<String> {
         let (rate, channels) = self.changed();
         let command = converting(program, self.name, &Made { mark: self.mark(), rate, channels })?;
