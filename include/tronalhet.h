@@ -123,8 +123,8 @@ tronalhet_answer tronalhet_decode_block(const uint8_t *file, size_t file_bytes, 
 tronalhet_coded tronalhet_encode(const int16_t *sound, size_t sound_samples, uint16_t channels, uint16_t align,
                                  uint8_t *out, size_t out_bytes);
 
-/* Writes a side without songs, which has TRONALHET_EMPTY_BYTES; n says so too. 9 but for 1 or 2 channels
- * and a rate of 1 to 192,000; then 14. */
+/* Writes a side without songs, which has TRONALHET_EMPTY_BYTES; n says so too. 9 unless there are 1 or 2
+ * channels and the rate is 1 to 192,000; then 14 where there is no room. */
 #define TRONALHET_EMPTY_BYTES 44
 tronalhet_answer tronalhet_empty(uint16_t channels, uint32_t rate, uint8_t *out, size_t out_bytes);
 

@@ -1,6 +1,6 @@
 //! The C interface, as `include/tronalhet.h` declares it.
 //!
-//! Its duties: a pointer and the number behind it are one buffer; one that is written to overlaps no other
+//! Its duties: a pointer and the number after it are one buffer; one that is written to overlaps no other
 //! that is lent with it; nothing changes a buffer while it is lent. A Rust slice, shared or not, keeps all three.
 
 #[repr(C)]

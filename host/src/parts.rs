@@ -1,6 +1,6 @@
 //! Decoding a sound part by part, so that it is never in memory as a whole: to test its blocks, or to encode it.
 //!
-//! From block to block a channel takes nothing along but its index. So a part is encoded behind a block of our own,
+//! From block to block a channel takes nothing along but its index. So a part is encoded after a block of our own,
 //! the lead-in, which leaves the index where the part before left it and is then dropped: the blocks are those of the
 //! whole sound.
 use crate::operations::{coded_bytes, decode, encode, read, samples_per_block, sound_of, write, Fault};
@@ -74,7 +74,7 @@ impl Coder {
         usize::from(samples_per_block(self.channels, self.align)) * usize::from(self.channels)
     }
 
-    /// Encodes a part, of whole blocks where it is not the last; how many bytes they have. A frame of silence behind a
+    /// Encodes a part, of whole blocks where it is not the last; how many bytes they have. A frame of silence after a
     /// part opens one block more, whose header says where the index is left.
     fn encode(&mut self, part: &[i16], last: bool, out: &mut [u8]) -> Result<usize, Fault> {
         let lead_in = self.lead_in();
@@ -82,10 +82,10 @@ impl Coder {
         let coded = encode(&[&lead_in[..], part, &[0; 2][..silence]].concat(), self.channels, self.align)?;
         let before = encode(&lead_in, self.channels, self.align)?;
         let (_, blocks) = coded.blocks.split_at(self.align.into());
-        let (kept, behind) = blocks.split_at(coded_bytes(part.len(), self.channels, self.align));
+        let (kept, after) = blocks.split_at(coded_bytes(part.len(), self.channels, self.align));
         for channel in 0..usize::from(self.channels) {
             assert!(kept.is_empty() || kept[4 * channel + 2] == self.index[channel], "the lead-in leads to the index");
-            self.index[channel] = behind.get(4 * channel + 2).copied().unwrap_or_default();
+            self.index[channel] = after.get(4 * channel + 2).copied().unwrap_or_default();
         }
         self.chased[0] += coded.left.0 - before.left.0;
         self.chased[1] += coded.right.0 - before.right.0;

@@ -91,9 +91,14 @@ impl Opened {
 /// of the last change of any kind; which also changes where a name of the file comes or goes, as where a side is
 /// replaced while its old file is still read.
 fn has_changed(before: &Metadata, after: &Metadata) -> bool {
-    let written = |about: &Metadata| (about.len(), about.mtime(), about.mtime_nsec());
     let changed = |about: &Metadata| (about.ctime(), about.ctime_nsec());
-    written(before) != written(after) || (changed(before) != changed(after) && before.nlink() == after.nlink())
+    !is_untouched(before, after) || (changed(before) != changed(after) && before.nlink() == after.nlink())
+}
+
+/// Whether a file has the length and was last written at the time that it had before.
+pub fn is_untouched(before: &Metadata, after: &Metadata) -> bool {
+    let written = |about: &Metadata| (about.len(), about.mtime(), about.mtime_nsec());
+    written(before) == written(after)
 }
 
 /// All bytes of a file.
@@ -157,13 +162,13 @@ fn heads(file: &File, start: u64, room: &mut [u8]) -> io::Result<()> {
         if !room.starts_with(b"RIFF") {
             return Ok(());
         }
-        next = if next == 0 { 12 } else { behind(room, next) };
+        next = if next == 0 { 12 } else { next_chunk(room, next) };
     }
     Ok(())
 }
 
-/// Where the chunk behind the one at a place starts; past the end where there is none.
-fn behind(room: &[u8], at: usize) -> usize {
+/// Where the chunk after the one at a place starts; past the end where there is none.
+fn next_chunk(room: &[u8], at: usize) -> usize {
     match room.get(at + 4..at + 8) {
         Some(size) => {
             let size = u32::from_le_bytes(size.try_into().expect("four bytes")) as usize;
@@ -185,7 +190,7 @@ mod tests {
         bytes
     }
 
-    /// A room of what `heads` reads of some bytes that stand in a file behind others.
+    /// A room of what `heads` reads of some bytes that stand in a file after others.
     fn glanced(bytes: &[u8]) -> Room<u8> {
         static MADE: AtomicUsize = AtomicUsize::new(0);
         let number = MADE.fetch_add(1, Ordering::SeqCst);
@@ -220,14 +225,17 @@ mod tests {
             (|path| File::options().write(true).open(path).unwrap().write_all(b"other").unwrap(), false),
             (|path| fs::remove_file(path).unwrap(), true),
         ];
-        for (change, fine) in changes {
+        for (change, accepted) in changes {
             fs::write(&path, &long).unwrap();
             // The system's clock goes in steps, so a change at once might have the same time.
             std::thread::sleep(std::time::Duration::from_millis(30));
             let opened = [open(name), open(name)].map(|opened| opened.ok().unwrap());
             change(&path);
             let [whole, glanced] = opened;
-            assert_eq!((all_of(name, whole).is_ok(), heads_of(name, &glanced, long.len()).is_ok()), (fine, fine));
+            assert_eq!(
+                (all_of(name, whole).is_ok(), heads_of(name, &glanced, long.len()).is_ok()),
+                (accepted, accepted)
+            );
         }
     }
 

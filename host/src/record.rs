@@ -82,7 +82,7 @@ impl Record {
         }
     }
 
-    /// The words that say a record. Its counts are told as they are; entries past 64 have no words, and the
+    /// The words that say a record. Its counts are those of its lists; entries past 64 have no words, and the
     /// library refuses the count.
     pub(crate) fn words(&self) -> Words {
         let Format { tag, channels, rate, bits, align, samples } = self.format;

@@ -63,9 +63,9 @@ pub fn shown(name: &OsStr) -> String {
             Ok(_) => rest.len(),
             Err(error) => error.valid_up_to(),
         };
-        let (front, behind) = rest.split_at(valid);
+        let (front, after) = rest.split_at(valid);
         String::from_utf8_lossy(front).chars().for_each(|letter| put_letter(&mut text, letter));
-        rest = behind;
+        rest = after;
         if let Some((byte, more)) = rest.split_first() {
             text.push_str(&format!("\\x{byte:02x}"));
             rest = more;

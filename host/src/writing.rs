@@ -1,6 +1,6 @@
 //! A new file is written under a name of its own, flushed to the disk, and only then gets its name: whatever
 //! happens before, an old file of that name stays whole, and no part of the new one has it.
-use crate::reading::about;
+use crate::reading::{about, is_untouched};
 use crate::stop::{shown, Stop};
 use crate::system::{keep_owner, lock, remove_on_signal, rename_to_free, usual_mode};
 use std::ffi::OsStr;
@@ -254,12 +254,6 @@ fn is_same(one: &Metadata, other: &Metadata) -> bool {
 /// Whether two names are of one file.
 fn are_same(one: &Path, other: &Path) -> bool {
     matches!((fs::symlink_metadata(one), fs::symlink_metadata(other)), (Ok(one), Ok(other)) if is_same(&one, &other))
-}
-
-/// Whether a file has the length and was last written at the time that it had before.
-fn is_untouched(before: &Metadata, after: &Metadata) -> bool {
-    let written = |about: &Metadata| (about.len(), about.mtime(), about.mtime_nsec());
-    written(before) == written(after)
 }
 
 /// Whether an open file is the one that has a name.

@@ -36,7 +36,7 @@ mkdir -p "$CARGO_TARGET_DIR/release" && cp bin/told "$CARGO_TARGET_DIR/release/t
 echo end >>"$LOG"
 '''}
 
-# It tells its words and its input, and ends with the status that it is given.
+# It prints its words and its input, and ends with the status that it is given.
 TOLD = f'''#!{sys.executable}
 import json, os, sys
 print(json.dumps([sys.argv[1:], sys.stdin.read()]))

@@ -1,4 +1,4 @@
-"""How the command tronalhet is called: names, standard input, its words, and what it tells scripts."""
+"""How the command tronalhet is called: names, standard input, its words, and what it reports to scripts."""
 import os
 import subprocess
 import tempfile
@@ -14,7 +14,7 @@ from vectors.wave_files import chunk, cue, data, fmt, point, wave
 
 
 def names():
-    """Names of any kind are told to scripts as they are; bytes that are no text are shown by a sign for such."""
+    """Names of any kind are reported to scripts as they are; bytes that are no text are shown by a sign for such."""
     for name in (b'a "b" \\ c', b'two\nlines\r\n', b'\t\x01\x1f\x7f', b'no text \xff\xc3', b"'; $(x) {} [] :,",
                  'Größe \u2028 \U0001f3b5'.encode(), b'--json'):
         word, shown = os.fsdecode(name), name.decode(errors='replace')
@@ -32,7 +32,7 @@ def names():
 
 
 def for_scripts():
-    """Each command tells a script in one object what it prints for people, and does the same."""
+    """Each command reports to a script in one object what it prints for people, and does the same."""
     lines, coded = answer(second_command.encode, SONG, 256)
     left, right = (int(line.split()[-1]) for line in lines[2:])
     for words, about, out, made, facts in (
@@ -57,7 +57,7 @@ def by_input(label, words, files, answered, content, **more):
         with tempfile.TemporaryFile(buffering=0) as file:
             file.write(before + content)
             file.seek(len(before))
-            does(f'{label} behind {len(before)} bytes', words, files, answered, 'standard input', stdin=file, **more)
+            does(f'{label} after {len(before)} bytes', words, files, answered, 'standard input', stdin=file, **more)
 
 
 def from_input():
@@ -133,7 +133,7 @@ def called_wrongly():
 
 
 def no_numbers():
-    """Words that are no number, or too large a one; zeros in front are taken."""
+    """Arguments that are not a number, or too large a one; zeros in front are accepted."""
     for word in ('', 'seven', '-1', '+1', ' 1', '1 ', '1.0', '0x10', '1e3', '4294967296', '9' * 30, '1' * 5000, '٣'):
         for name, option in [(name, option) for name in OPTIONS for option in OPTIONS[name] if option != '--out']:
             call = [part for part in CALLS[name] if not part.startswith(option)]
@@ -148,7 +148,7 @@ def no_numbers():
 
 
 def called():
-    """Options stand anywhere, with their value behind = or as the next word; behind -- all is a name."""
+    """Options stand anywhere, with their value after = or as the next word; after -- all is a name."""
     files, coded = {'-song.wav': SONG, '--align': SONG, '--help': SONG}, answer(second_command.encode, SONG, 256)
     for words in (['--align=256', '--', '-song.wav', 'new.wav'], ['--align', '256', '--', '--align', 'new.wav'],
                   ['./-song.wav', '--align', '00256', 'new.wav'], ['./--help', 'new.wav', '--align=256']):

@@ -47,14 +47,14 @@ def on_kept_sides():
 
 
 def records():
-    """`list` tells a script the whole record of a file that is accepted."""
+    """`list` reports to a script the whole record of a file that is accepted."""
     for name, file in {**other_files(), **border_files()}.items():
         if refusal_of(file) is None:
             tells(f'list --json {name}', ['list', 'file.wav'], {'file.wav': file}, (0, [record_of('file.wav', file)]))
 
 
 def told_of(name, file):
-    """What `check` must tell a script of a file, but for the words of a place."""
+    """What `check` must report to a script on a file, but for the words of a place."""
     number = refusal_of(file)
     if number is None:
         return {'file': name, 'ok': True, 'refused': 0}
@@ -63,7 +63,8 @@ def told_of(name, file):
 
 
 def many_checked(label, files):
-    """Files are checked all at once, for people and for scripts; each is told by itself, and the first fault counts."""
+    """Files are checked all at once, for people and for scripts; each is reported by itself, and the first fault
+    counts."""
     named = {f'{turn}.wav': file for turn, file in enumerate(files)}
     numbers = {name: refusal_of(file) for name, file in named.items()}
     status = next((number for number in numbers.values() if number), 0)
@@ -87,10 +88,10 @@ def many_checked(label, files):
 
 
 def checked():
-    """All files at once; of each that is refused the place is told that the walk above finds."""
+    """All files at once; of each that is refused the place is reported that the walk of places.py finds."""
     many_checked('all files', [*other_files().values(), *border_files().values()])
     many_checked('files that are accepted', [SONG, EMPTY])
-    many_checked('one that is accepted behind others', [b'', b'RIFF' * 4, SONG])
+    many_checked('one that is accepted after others', [b'', b'RIFF' * 4, SONG])
 
 
 # ---- files of which only the heads of their chunks are read

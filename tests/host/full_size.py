@@ -58,7 +58,7 @@ def sparse(path, size, head):
 
 
 def head_of(size, bits=8, tables=b''):
-    """The head of a mono PCM file of so many bytes, all of which is sound behind it."""
+    """The head of a mono PCM file of so many bytes, all of which is sound after it."""
     front = b'RIFF' + struct.pack('<I', size - 8) + b'WAVE' + fmt(bits=bits) + tables
     return front + b'data' + struct.pack('<I', size - 8 - len(front))
 
@@ -96,7 +96,7 @@ def at_the_limit(folder):
 
 
 def streams(folder):
-    """What comes without a size is refused when it is longer than a file may be, and taken when it is as long."""
+    """What comes without a size is refused when it is longer than a file may be, and accepted when it is as long."""
     sparse(folder / 'most.wav', MOST, head_of(MOST))
     label = 'a file without end'
     expect(label, measured(label, ['list', '/dev/zero'], folder, MOST + SPARE), (1, ['refused 1']))

@@ -114,7 +114,7 @@ def usages():
 
 
 def stripped(page):
-    """The words of a man page, without what troff is told about them."""
+    """The words of a man page, without the orders to troff."""
     for order, shown in (('\\%', ''), ('\\&', ''), ('\\-', '-'), ('\\(aq', "'"), ('\\e', '\\')):
         page = page.replace(order, shown)
     return ' '.join(re.sub(r'^\.[A-Z]{2} ?|\\f[BIR]', '', page, flags=re.M).split())
@@ -140,7 +140,7 @@ def man_page():
 # ---- the completion
 
 class Typing:
-    """A shell in which a person types, with tabs. The command only tells its words there."""
+    """A shell in which a person types, with tabs. The command only prints its words there."""
 
     def __init__(self, folder, completion):
         rc = folder / 'rc'

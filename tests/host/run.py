@@ -125,12 +125,12 @@ def picked(pick):
 
 
 def tells(label, words, files, wanted, pick=lambda *told: [*told], changed=(), **options):
-    """The command tells a script what is wanted, be it all or what is picked of it."""
+    """The command reports to a script what is wanted, be it all or what is picked of it."""
     tried(label, [*HOST, words[0], '--json', *words[1:]], files, wanted, dict(changed), picked(pick), **options)
 
 
 def refuses(label, words, files, number, where, said=()):
-    """The command tells a script the number of a refusal and its place; in the words of that some others must stand."""
+    """The command reports to a script the number of a refusal and its place, in whose words some others must stand."""
     def pick(told):
         what = told.get('where', {}).pop('what', '')
         told.pop('way_out', None)

@@ -17,7 +17,7 @@ from vectors.wave_files import data, fmt, wave
 
 
 def trouble(label, words, files, *said, **options):
-    """The command says one line on standard error with these words, and changes nothing; a script is told the same."""
+    """The command says one line on standard error with these words, and changes nothing; a script gets the same."""
     def seen(answered):
         status, shown, line = answered
         return status, shown, line[:11], line.count('\n'), [word for word in said if word not in line]
@@ -213,7 +213,7 @@ def hidden_folder():
 
 
 def not_shown():
-    """Standard output that cannot be written is trouble; what was done is told, and stays."""
+    """Standard output that cannot be written is trouble; what was done is reported, and stays."""
     for words, told, changed in ((['--help'], '', {}), (['list', '--help'], '', {}),
                                  (['check', 'song.wav'], 'accepted', {}),
                                  (['list', 'song.wav'], second_reader.listing(SONG)[0][0], {}),

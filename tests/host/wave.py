@@ -85,7 +85,7 @@ def story():
 
 
 def demonstration():
-    """demo/ has what its script makes; ./wave tells what demo/story has, and leaves nothing."""
+    """demo/ has what its script makes; ./wave says what demo/story has, and leaves nothing."""
     there = {path.name: path.read_bytes() for path in make.HERE.glob('*.wav')}
     expect('whether the files of demo/ are what demo/make.py makes', there == make.files(), True)
     with tempfile.TemporaryDirectory() as room:
