@@ -4,6 +4,7 @@ import contextlib
 import os
 import pathlib
 import resource
+import signal
 import subprocess
 import sys
 import tempfile
@@ -104,13 +105,24 @@ def empty_for(song):
     return second_side.empty(channels, rate)[1]
 
 
-# ---- programs that are not waited for
+# ---- programs that run beside the test
+
+class Started(subprocess.Popen):
+    """A program that runs beside the test, with a group of processes of its own. Where the test cannot go on, the group
+    is killed: to wait for a program that is stuck would have no end."""
+
+    def __exit__(self, kind, *more):
+        if kind is not None:
+            with contextlib.suppress(ProcessLookupError):
+                os.killpg(self.pid, signal.SIGKILL)
+        super().__exit__(kind, *more)
+
 
 def start(words, folder, **options):
-    """Starts a program, in a group of processes that can be killed as one."""
+    """Starts a program, which runs beside the test."""
     options = {'stdin': subprocess.DEVNULL, **options}
-    return subprocess.Popen([str(word) for word in words], cwd=folder, text=True, stdout=subprocess.PIPE,
-                            stderr=subprocess.PIPE, start_new_session=True, **options)
+    return Started([str(word) for word in words], cwd=folder, text=True, stdout=subprocess.PIPE,
+                   stderr=subprocess.PIPE, start_new_session=True, **options)
 
 
 def opened(pipe):
