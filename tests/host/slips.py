@@ -1,12 +1,13 @@
 """Nothing is lost by a slip of a person: what is there is not replaced, what is replaced can be kept, and what is odd
 is said."""
+import errno
 import os
 import subprocess
 
 from host.run import (ADDED, ADDED_SONG, DECODED, FILES, HOST, IN_PLACE, KNOWN, OF_SOUND, OTHER, added, adds, does,
                       left_out, parts, reading, replacing, tells, writing)
 from host.trouble import trouble
-from trying import EMPTY, SONG, expect, holding, kept, put, run
+from trying import EMPTY, SONG, expect, holding, kept, opened, put, run, start
 from second import command as second_command
 from second.command import answer
 from vectors import side_files
@@ -30,6 +31,24 @@ def not_replaced():
     does('add to SIDE by its name', [*call, '--out=./A.wav'], sides, added(EMPTY, OTHER, 8, 9999), out='A.wav')
     does('encode over another song', ['encode', 'a.wav', 'b.wav', '--replace'], songs,
          answer(second_command.encode, SONG, 1024), out='b.wav')
+
+
+def meanwhile():
+    """A file that appears at OUT while the song is awaited, or changes there, is not replaced either."""
+    for words, why in ((['decode', 'pipe', 'new.wav'], os.strerror(errno.EEXIST)),
+                       (['encode', 'pipe', 'old.wav', '--replace'], 'it changed while the new file was made')):
+        out = words[2]
+        with holding({'old.wav': b'old'}) as folder:
+            os.mkfifo(folder / 'pipe')
+            with start([*HOST, *words], folder) as waiting:
+                pipe = opened(folder / 'pipe')
+                put(folder / out, b'put there meanwhile')
+                os.write(pipe, SONG)
+                os.close(pipe)
+                ended = waiting.communicate(timeout=60)
+            expect(f'{words}, and OUT changes meanwhile', (waiting.returncode, *ended),
+                   (74, '', f'tronalhet: cannot write {out}: {why}\n'))
+            expect(f'{words}, the files', ((folder / out).read_bytes(), parts(folder)), (b'put there meanwhile', []))
 
 
 # ---- what is odd is said
