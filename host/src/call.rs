@@ -81,8 +81,10 @@ pub const COMMANDS: &[Command] = &[
             REPLACE,
             JSON,
         ],
-        about: "Writes an approval copy of IN, in IMA ADPCM: a quarter of its size.",
-        more: "",
+        about: "Writes an approval copy of IN, in IMA ADPCM: about a quarter of its size.",
+        more:
+            "Chased samples are those that are too far from the one before for one step of the copy, which then comes\n\
+               nearer sample by sample. A few are usual; many are heard as a dull attack.",
     },
     Command {
         name: "add",
@@ -101,7 +103,10 @@ pub const COMMANDS: &[Command] = &[
                 "replace",
                 "replaces a FILE that is there already; or a SIDE with other hard links, which keep the old side",
             ),
-            flag("backup", "keeps the old side as SIDE.1, SIDE.2, .., the first name that is free"),
+            flag(
+                "backup",
+                "keeps the file that is replaced as SIDE.1, SIDE.2, .. (or FILE.1, ..), the first name that is free",
+            ),
             JSON,
         ],
         about: "Adds a song to a side. A song that is on it already is not added again, which is no fault.",
@@ -246,6 +251,7 @@ fn command_of(word: &OsStr) -> Result<&'static Command, Wrong> {
 fn help_on(words: &[OsString]) -> Result<String, Wrong> {
     match words {
         [] => Ok(help()),
+        [name] if name == "help" => Ok(help()),
         [name] => command_of(name).map(Command::help),
         [_, second, ..] => Err(Wrong { what: too_many(second), usage: "tronalhet help [COMMAND]".into() }),
     }
@@ -303,7 +309,7 @@ fn take_option<'a>(
     let split = bytes.iter().position(|byte| *byte == b'=');
     let (name, after) = (&bytes[..split.unwrap_or(bytes.len())], split.map(|place| &bytes[place + 1..]));
     let choice = command.options.iter().find(|choice| name.strip_prefix(b"--") == Some(choice.name.as_bytes()));
-    let choice = choice.ok_or_else(|| format!("{} has no option {}", command.name, given(OsStr::from_bytes(name))))?;
+    let choice = choice.ok_or_else(|| no_option(command, OsStr::from_bytes(name)))?;
     let kind = match (choice.takes, after) {
         (Takes::Nothing, Some(_)) => return Err(format!("--{} takes no value", choice.name)),
         (Takes::Nothing, None) => {
@@ -323,6 +329,12 @@ fn take_option<'a>(
     } else {
         Ok(())
     }
+}
+
+/// An option that a command does not have. One with a single dash may be meant as the name of a file.
+fn no_option(command: &Command, word: &OsStr) -> String {
+    let hint = if word.as_bytes().starts_with(b"--") { "" } else { "; a name that begins with - comes after --" };
+    format!("{} has no option {}{hint}", command.name, given(word))
 }
 
 /// A whole number in digits, 0 to the most.

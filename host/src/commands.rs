@@ -4,7 +4,7 @@ use crate::call::Call;
 use crate::eprint;
 use crate::reading::{glance, is_stream, whole};
 use crate::shown::Json;
-use crate::stop::{shown, Stop};
+use crate::stop::{counted, shown, Stop};
 use crate::writing::Target;
 use std::ffi::{OsStr, OsString};
 use tronalhet::places::{left_out, of_adding, way_out_of_adding, Which};
@@ -106,10 +106,15 @@ fn write(target: &Target, to: &OsStr, made: &[u8], backup: bool, mut told: Told)
     let kept = target.write(made, backup)?;
     told.fields.insert(0, ("out", text(to)));
     if let Some(kept) = kept {
+        told.lines.push(format!("backup {}", shown(kept.as_os_str())));
         told = told.with("backup", text(kept.as_os_str()));
     }
+    if let Some(path) = target.behind_link(to) {
+        told.remarks.push(format!("{}: it is a link, and {} was written", shown(to), shown(path.as_os_str())));
+    }
     if others > 0 {
-        told.remarks.push(format!("{}: its {others} other names (hard links) keep the old file", shown(to)));
+        let names = counted(others, "other name (a hard link) keeps", "other names (hard links) keep");
+        told.remarks.push(format!("{}: its {names} the old file", shown(to)));
     }
     Ok(told)
 }
@@ -183,15 +188,17 @@ fn add(call: &Call) -> Answer {
         limit: Frames(call.needed("limit")),
     };
     let to = call.out.as_ref().map_or(adding.side, |out| out);
-    place_for_side(to, &adding, call.flag("replace"))?;
+    let looked_at = Target::new(to)?;
+    looked_at.is_not(adding.song, "SONG")?;
     let song = whole(adding.song)?;
     let streamed = if is_stream(adding.side) { Some(whole(adding.side)?) } else { None };
-    let locked = Target::new(to)?.lock_folder(eprint)?;
-    // What stands there may be another file after a wait.
+    let locked = looked_at.lock_folder(eprint)?;
+    // Whether OUT is SIDE can be told only now: until the lock is held, another run may replace it between two looks.
     let target = place_for_side(to, &adding, call.flag("replace"))?;
     let side = streamed.map_or_else(|| whole(adding.side), Ok)?;
     let made = tronalhet::add(&side, &song, adding.number, adding.limit)
-        .map_err(|fault| not_added(&adding, &side, &song, fault))?;
+        .map_err(|fault| not_added(&adding, &side, &song, fault))
+        .map_err(|stop| if call.out.is_some() { without_out(stop, to) } else { stop })?;
     let told = added(&adding, &side, &song, &made).map_err(|fault| Stop::of_file(to, &made, fault))?;
     let answer = write(&target, to, &made, call.flag("backup"), told);
     drop(locked);
@@ -226,6 +233,17 @@ fn not_added(adding: &Adding, side: &[u8], song: &[u8], fault: Fault) -> Stop {
     Stop::Refused { refusal, file: name.into(), place: found.map(|(_, place)| place), way_out }
 }
 
+/// A song that is on the side already is no fault, but a new OUT is not there then, which a script may count on.
+fn without_out(stop: Stop, to: &OsStr) -> Stop {
+    match stop {
+        Stop::Refused { refusal: refusal @ Refusal::AlreadyListed, file, place, .. } => {
+            let way_out = Some(format!("use SIDE as it is; {} was not written", shown(to)));
+            Stop::Refused { refusal, file, place, way_out }
+        }
+        stop => stop,
+    }
+}
+
 /// What is reported of a song that was added: which song it is, where it starts, and how much of the limit is left. Its
 /// sound may be on the side already under another number, which is allowed, and is seldom meant.
 fn added(adding: &Adding, side: &[u8], song: &[u8], made: &[u8]) -> Result<Told, Fault> {
@@ -239,6 +257,11 @@ fn added(adding: &Adding, side: &[u8], song: &[u8], made: &[u8]) -> Result<Told,
         ("frames_left", (adding.limit.0 - after.frames.0) as usize),
     ]);
     let mut told = told.without(&[(adding.side, left_out(side, ALL)), (adding.song, left_out(song, SOUND))]);
+    let songs = tronalhet::read(song)?.playlist.len();
+    if songs > 0 {
+        let list = counted(songs as u64, "entry", "entries");
+        told.remarks.push(format!("{}: it has a playlist of {list}, and was added as one song", shown(adding.song)));
+    }
     let same = tronalhet::same_sound(side, song)?;
     if !same.is_empty() {
         let numbers: Vec<String> = same.iter().map(|number| number.0.to_string()).collect();

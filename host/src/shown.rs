@@ -1,7 +1,9 @@
 //! What the command prints: lines for people, JSON for scripts.
+use crate::stop::reason;
 use crate::{eprint, TROUBLE};
 use std::fmt;
 use std::io::{ErrorKind, Write};
+use tronalhet::places::is_plain;
 
 /// A value of JSON.
 pub enum Json {
@@ -41,7 +43,7 @@ fn quoted(out: &mut fmt::Formatter, text: &str) -> fmt::Result {
     for letter in text.chars() {
         match letter {
             '"' | '\\' => write!(out, "\\{letter}")?,
-            letter if letter < ' ' => write!(out, "\\u{:04x}", u32::from(letter))?,
+            letter if !is_plain(letter) => write!(out, "\\u{:04x}", u32::from(letter))?,
             letter => write!(out, "{letter}")?,
         }
     }
@@ -55,8 +57,9 @@ pub fn print(text: &str) -> u8 {
     match out.write_all(text.as_bytes()).and_then(|()| out.flush()) {
         Ok(()) => 0,
         Err(error) if error.kind() == ErrorKind::BrokenPipe => 0,
-        Err(_) => {
-            eprint(&format!("cannot write to standard output: {}", text.lines().next().unwrap_or_default()));
+        Err(error) => {
+            let (why, answer) = (reason(&error), text.lines().next().unwrap_or_default());
+            eprint(&format!("cannot write to standard output: {why}; the answer was: {answer}"));
             TROUBLE
         }
     }

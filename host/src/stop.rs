@@ -54,8 +54,10 @@ impl From<NoMemory> for Stop {
 /// A file's name as people see it. What would end the line, move the cursor or turn the direction of writing is
 /// escaped, so that no name can be read as another line.
 pub fn shown(name: &OsStr) -> String {
-    if name == "-" {
-        return "standard input".into();
+    match name.to_str() {
+        Some("-") => return "standard input".into(),
+        Some("") => return "''".into(),
+        _ => {}
     }
     let (mut text, mut rest) = (String::new(), name.as_bytes());
     while !rest.is_empty() {
@@ -82,8 +84,13 @@ fn put_letter(text: &mut String, letter: char) {
     }
 }
 
+/// A number of things, with the word for one or for more.
+pub fn counted(number: u64, one: &str, more: &str) -> String {
+    format!("{number} {}", if number == 1 { one } else { more })
+}
+
 /// What the system says of an error, without its number.
-fn reason(error: &io::Error) -> String {
+pub fn reason(error: &io::Error) -> String {
     let said = error.to_string();
     said.split(" (os error").next().unwrap_or_default().into()
 }
@@ -98,6 +105,9 @@ mod tests {
         assert_eq!(named(b"a\nrefused 1\r\x1b[2K.wav"), "a\\nrefused 1\\r\\u{1b}[2K.wav");
         assert_eq!(named("é\u{202e}\u{85}\u{7f}".as_bytes()), "é\\u{202e}\\u{85}\\u{7f}");
         assert_eq!(named(b"\xff\xfe song\xc3"), "\\xff\\xfe song\\xc3");
-        assert_eq!((named(b"-"), named(b"a\\b 'c'")), ("standard input".into(), "a\\b 'c'".into()));
+        assert_eq!(
+            (named(b"-"), named(b""), named(b"a\\b 'c'")),
+            ("standard input".into(), "''".into(), "a\\b 'c'".into())
+        );
     }
 }

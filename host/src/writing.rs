@@ -1,7 +1,7 @@
 //! A new file is written under a name of its own, flushed to the disk, and only then gets its name: whatever
 //! happens before, an old file of that name stays whole, and no part of the new one has it.
 use crate::reading::{about, is_untouched};
-use crate::stop::{shown, Stop};
+use crate::stop::{counted, shown, Stop};
 use crate::system::{keep_owner, lock, remove_on_signal, rename_to_free, usual_mode};
 use std::ffi::OsStr;
 use std::fs::{self, File, Metadata, OpenOptions, Permissions};
@@ -36,6 +36,9 @@ impl Target {
             Some(folder) if !folder.as_os_str().is_empty() => folder.to_path_buf(),
             _ => PathBuf::from("."),
         };
+        if path.file_name().map_or(false, is_unfinished) {
+            return Err(Stop::no_place(Path::new(name), "such names are for unfinished files, which are removed"));
+        }
         let old = match fs::metadata(&path) {
             Err(error) if error.kind() == ErrorKind::NotFound && path.file_name().is_some() => None,
             old => Some(old.map_err(not_written)?),
@@ -85,8 +88,9 @@ impl Target {
         match self.other_names() {
             0 => Ok(()),
             more => {
-                let why = format!("it has {more} more names (hard links), which would keep the old file");
-                Err(Stop::no_place(&self.path, &format!("{why}; --replace replaces this one")))
+                let names = counted(more, "more name (a hard link)", "more names (hard links)");
+                let why = format!("it has {names}, by which the old file would stay; --replace replaces this one");
+                Err(Stop::no_place(&self.path, &why))
             }
         }
     }
@@ -108,7 +112,7 @@ impl Target {
         let not_locked = |error: io::Error| Stop::not_written(&self.path, &error);
         let folder = File::open(&self.folder).map_err(not_locked)?;
         if !lock(&folder, false).map_err(not_locked)? {
-            waiting(&format!("waiting for another add in {}", shown(self.folder.join("").as_os_str())));
+            waiting(&format!("waiting for another add or new-side in {}", shown(self.folder.join("").as_os_str())));
             lock(&folder, true).map_err(not_locked)?;
         }
         Ok(folder)
@@ -123,13 +127,27 @@ impl Target {
 
     /// Gives a finished file its name. One that has appeared there meanwhile, or has changed, is not replaced.
     fn name(&self, finished: &Path) -> io::Result<()> {
-        match (&self.old, fs::metadata(&self.path)) {
-            (None, _) => rename_to_free(finished, &self.path),
-            (Some(old), Ok(there)) if is_same(old, &there) && is_untouched(old, &there) => {
-                fs::rename(finished, &self.path)
-            }
-            _ => Err(io::Error::new(ErrorKind::Other, "it changed while the new file was made")),
+        if self.old.is_none() {
+            return rename_to_free(finished, &self.path).map_err(|error| match error.kind() {
+                ErrorKind::AlreadyExists => io::Error::new(ErrorKind::Other, "it is there already"),
+                _ => error,
+            });
         }
+        if self.is_as_it_was() {
+            return fs::rename(finished, &self.path);
+        }
+        Err(io::Error::new(ErrorKind::Other, "it changed while the new file was made"))
+    }
+
+    /// Whether the file is still there that would be replaced, and nobody has written to it.
+    fn is_as_it_was(&self) -> bool {
+        matches!((&self.old, fs::metadata(&self.path)),
+            (Some(old), Ok(there)) if is_same(old, &there) && is_untouched(old, &there))
+    }
+
+    /// The file that is written, where the name that was given is a link to it.
+    pub fn behind_link(&self, name: &OsStr) -> Option<&Path> {
+        Some(self.path.as_path()).filter(|path| *path != Path::new(name))
     }
 }
 
@@ -220,7 +238,7 @@ impl Unfinished {
         };
         target.name(&self.path).map_err(|error| {
             // Nothing was replaced, so there is nothing to keep a second time.
-            let _ = backup.iter().filter(|name| are_same(&target.path, name)).try_for_each(fs::remove_file);
+            let _ = backup.iter().filter(|_| target.is_as_it_was()).try_for_each(fs::remove_file);
             error
         })?;
         let _ = File::open(&target.folder).and_then(|folder| folder.sync_all());
@@ -268,12 +286,17 @@ fn is_there(file: &File, path: &Path) -> bool {
 /// cannot be looked at is no fault.
 fn sweep(folder: &Path) {
     for entry in fs::read_dir(folder).into_iter().flatten().flatten() {
-        let name = entry.file_name();
-        let name = name.to_string_lossy();
-        if name.starts_with(BEGINS) && name.ends_with(ENDS) {
+        if is_unfinished(&entry.file_name()) {
             remove_unlocked(&entry.path());
         }
     }
+}
+
+/// Whether a name is one that an unfinished file gets.
+fn is_unfinished(name: &OsStr) -> bool {
+    let numbers = name.to_str().and_then(|name| name.strip_prefix(BEGINS)?.strip_suffix(ENDS)?.split_once('-'));
+    let digits = |text: &str| !text.is_empty() && text.bytes().all(|byte| byte.is_ascii_digit());
+    numbers.map_or(false, |(process, number)| digits(process) && digits(number))
 }
 
 /// The lock is held until the file is gone, so that a run which has just made it sees that.
@@ -304,5 +327,14 @@ mod tests {
         assert_eq!(copied(&side, &folder, &copy).unwrap_err().kind(), ErrorKind::AlreadyExists);
         assert_eq!(fs::read_dir(&folder).unwrap().count(), 2);
         fs::remove_dir_all(folder).unwrap();
+    }
+
+    #[test]
+    fn unfinished_files_are_known_by_their_names() {
+        let known = |name: &str| is_unfinished(OsStr::new(name));
+        assert!(known(".tronalhet-1-0.part") && known(".tronalhet-4194304-12.part"));
+        let others =
+            [".tronalhet-mine.part", ".tronalhet-1-x.part", ".tronalhet--0.part", ".tronalhet-1-0.wav", "x.part"];
+        assert!(!others.into_iter().any(known));
     }
 }

@@ -20,25 +20,26 @@ from host.full_size import full_size
 from host.installed import compiled, completed, everything, installed_command, man_page, not_installed
 from host.run import PROGRAM, attempted
 from host.slips import (backups, closed_pipes, closed_streams, kept_twice, links_of_backups, meanwhile,
-                        names_on_one_line, not_replaced, other_sounds, several_names)
-from host.together import elsewhere, many_decodes, stuck_songs, ten_adds, ten_sides, waits
+                        names_on_one_line, not_replaced, nothing_written, other_sounds, several_names)
+from host.together import elsewhere, many_decodes, replaced_meanwhile, stuck_songs, ten_adds, ten_sides, waits
 from host.trouble import (devices, hidden_folder, links, modes, new_names, no_memory, not_allowed, not_read, not_shown,
-                          not_written, same_file, shared, special_files)
+                          not_written, same_file, shared, special_files, unfinished_names)
 from host.wave import by_wave, demonstration, readme, story
 from host.ways_out import three_lines, ways_out, ways_out_by_name, ways_to_side
 from host.writing import flushed, full_disk, living_parts, no_parts, past_a_limit, really_full_disk
 from trying import WRONG, expect, report
 
 # Those that take longest come first, as the parts are run side by side.
-PARTS = (full_size, on_files, two_builds, many_decodes, placed, glanced, on_kept_sides, records, checked, block_places,
-         wrong_files, wrong_songs, other_refusals, ways_out, ways_to_side, ways_out_by_name, three_lines, names,
-         for_scripts, from_input, slow_input, called_wrongly, no_numbers, called, helps, json_page, not_read,
-         not_written, special_files, same_file, links, new_names, modes, not_allowed, shared, devices, hidden_folder,
-         not_shown, no_memory, full_disk, really_full_disk, past_a_limit, living_parts, no_parts, flushed, not_replaced,
-         meanwhile, other_sounds, backups, kept_twice, links_of_backups, several_names, closed_streams, closed_pipes,
-         names_on_one_line, stuck_songs, waits, elsewhere, ten_adds, ten_sides, handed_over, own_words, playing, built,
-         built_again, changed_meanwhile, not_built, counted, killed_build, everything, not_installed, installed_command,
-         compiled, man_page, completed, by_wave, story, demonstration, readme)
+PARTS = (full_size, on_files, two_builds, many_decodes, replaced_meanwhile, placed, glanced, on_kept_sides, records, checked,
+         block_places, wrong_files, wrong_songs, other_refusals, ways_out, ways_to_side, ways_out_by_name, three_lines,
+         names, for_scripts, from_input, slow_input, called_wrongly, no_numbers, called, helps, json_page, not_read,
+         not_written, special_files, same_file, links, unfinished_names, new_names, modes, not_allowed, shared, devices,
+         hidden_folder, not_shown, no_memory, full_disk, really_full_disk, past_a_limit, living_parts, no_parts,
+         flushed, not_replaced, meanwhile, other_sounds, backups, kept_twice, links_of_backups, several_names,
+         closed_streams, closed_pipes, names_on_one_line, nothing_written, stuck_songs, waits, elsewhere, ten_adds,
+         ten_sides, handed_over, own_words, playing, built, built_again, changed_meanwhile, not_built, counted,
+         killed_build, everything, not_installed, installed_command, compiled, man_page, completed, by_wave, story,
+         demonstration, readme)
 
 
 def alone(part):

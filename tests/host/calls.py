@@ -5,7 +5,8 @@ import tempfile
 import time
 
 from host.places import record_of, with_junk
-from host.run import ADDED, ADDED_SONG, DECODED, FILES, HOST, KNOWN, NEW, OF_SOUND, added, does, left_out, tells
+from host.run import (ADDED, ADDED_SONG, DECODED, FILES, HOST, KNOWN, NEW, OF_SOUND, added, does, left_out,
+                      many_songs, tells)
 from second import command as second_command, reader as second_reader
 from second.command import answer
 from trying import EMPTY, ROOT, SONG, expect, holding, make, printed, run, start, tried
@@ -72,8 +73,9 @@ def from_input():
                  remarks=without[0])
         by_input(f'encode {label}', ['encode', '-', 'new.wav'], {}, answer(second_command.encode, file, 1024), file,
                  remarks=without[1])
+        songs = many_songs('standard input', file) if added(EMPTY, file, 7, 9999)[1] else []
         by_input(f'add {label}', ['add', 'side.wav', '-', *ADDED], FILES, added(EMPTY, file, 7, 9999), file,
-                 out='side.wav', remarks=without[1])
+                 out='side.wav', remarks=[*without[1], *songs])
         by_input(f'add to {label}', ['add', '-', 'song.wav', *ADDED, '--out=new.wav'], FILES,
                  added(file, SONG, 7, 9999), file, remarks=without[0])
     tells('check among others', ['check', 'song.wav', '-', 'side.wav'], FILES,

@@ -13,7 +13,7 @@ from vectors.wave_files import fmt
 NATIVE = platform.machine() == 'x86_64'
 PROGRAM = ROOT / 'target' / 'host' / 'release' / 'tronalhet'
 HOST = [PROGRAM] if NATIVE else ['qemu-x86_64', PROGRAM]
-PART = '.tronalhet-*.part'
+PART = '.tronalhet-[0-9]*-[0-9]*.part'
 MOST = 1 << 30
 MEANINGS = meanings()
 FILES = {'song.wav': SONG, 'side.wav': EMPTY}
@@ -87,11 +87,18 @@ def same_sound(name, side, song):
     return [f'tronalhet: {name}: this sound is on the side already, as {", ".join(numbers)}'] if numbers else []
 
 
+def many_songs(name, song):
+    """The line that says that what was added as a song has a playlist, as a side has; none where it has none."""
+    count = len(second_reader.read(song)[3])
+    entries = '1 entry' if count == 1 else f'{count} entries'
+    return [f'tronalhet: {name}: it has a playlist of {entries}, and was added as one song'] if count else []
+
+
 def adds(label, side, song, number, limit, about=None, song_name='song.wav', out='side.wav', words=(), **options):
     """`add` does what it must with a side and a song, in place or to another file."""
     lines, made = added(side, song, number, limit)
     remarks = [] if made is None else [*left_out('side.wav', side, KNOWN), *left_out(song_name, song, OF_SOUND),
-                                       *same_sound(song_name, side, song)]
+                                       *many_songs(song_name, song), *same_sound(song_name, side, song)]
     call = ['add', 'side.wav', song_name, '--number', number, '--limit', limit, *words]
     does(label, call if out == 'side.wav' else [*call, '--out', out], {'side.wav': side, song_name: song},
          (lines, made), about or song_name, out, remarks, **options)

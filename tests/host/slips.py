@@ -79,6 +79,16 @@ def other_sounds():
               {'new.wav': made[1]})
 
 
+def nothing_written():
+    """A song that is on the side already is no fault, but OUT is not there then, and that is said."""
+    with holding({**FILES, 'side.wav': ADDED_SONG[1]}) as folder:
+        before = kept(folder)
+        status, shown, said = run([*HOST, *IN_PLACE, '--out=new.wav'], folder)
+        expect('a listed song and another OUT', (status, shown, said.splitlines()[-1]),
+               (0, 'refused 18\n', 'tronalhet: way out: use SIDE as it is; new.wav was not written'))
+        expect('a listed song and another OUT, the files', kept(folder), before)
+
+
 # ---- what is replaced can be kept
 
 def backups():
@@ -86,14 +96,15 @@ def backups():
     for there in ({}, {'side.wav.1': b'other'}, {'side.wav.1': 'nowhere', 'side.wav.2': b''}):
         name = f'side.wav.{len(there) + 1}'
         does(f'a backup as {name}', [*IN_PLACE, '--backup'], {**FILES, **there},
-             (ADDED_SONG[0], {'side.wav': ADDED_SONG[1], name: EMPTY}))
+             ([*ADDED_SONG[0], f'backup {name}'], {'side.wav': ADDED_SONG[1], name: EMPTY}))
     tells('a backup, for scripts', ['add', 'side.wav', 'song.wav', *ADDED, '--backup'], FILES,
           (0, ('side.wav', 'side.wav.1')), lambda told: (told['out'], told['backup']),
           {'side.wav': ADDED_SONG[1], 'side.wav.1': EMPTY})
     does('a backup of what is replaced', [*IN_PLACE, '--out=old', '--replace', '--backup'], {**FILES, 'old': b'old'},
-         (ADDED_SONG[0], {'old': ADDED_SONG[1], 'old.1': b'old'}))
+         ([*ADDED_SONG[0], 'backup old.1'], {'old': ADDED_SONG[1], 'old.1': b'old'}))
     does('a backup by a link', ['add', 'link', 'song.wav', *ADDED, '--backup'], {**FILES, 'link': 'side.wav'},
-         (ADDED_SONG[0], {'side.wav': ADDED_SONG[1], 'side.wav.1': EMPTY}))
+         ([*ADDED_SONG[0], 'backup side.wav.1'], {'side.wav': ADDED_SONG[1], 'side.wav.1': EMPTY}),
+         remarks=['tronalhet: link: it is a link, and side.wav was written'])
     does('nothing to be kept', [*IN_PLACE, '--out=new.wav', '--backup'], FILES,
          (ADDED_SONG[0], {'new.wav': ADDED_SONG[1]}))
     does('a refusal keeps nothing', [*IN_PLACE[:3], '--number=7', '--limit=1', '--backup'], FILES,
@@ -131,18 +142,23 @@ def links_of_backups():
 
 def several_names():
     """A side with several names is not replaced under one of them alone, unless that is asked for; then it is said."""
-    for words in (IN_PLACE, [*IN_PLACE, '--out=./side.wav'], [*IN_PLACE, '--backup']):
+    for words, others, has, keep in (
+            (IN_PLACE, ['second'], '1 more name (a hard link)', '1 other name (a hard link) keeps'),
+            ([*IN_PLACE, '--out=./side.wav'], ['second', 'third'], '2 more names (hard links)',
+             '2 other names (hard links) keep'),
+            ([*IN_PLACE, '--backup'], ['second', 'third'], '2 more names (hard links)',
+             '2 other names (hard links) keep')):
         with holding(FILES) as folder:
-            for name in ('second', 'third'):
+            for name in others:
                 os.link(folder / 'side.wav', folder / name)
             status, shown, said = run([*HOST, *words], folder)
-            wanted = 'tronalhet: cannot write side.wav: it has 2 more names (hard links), which would keep the old file'
-            expect(f'{words}, several names', (status, shown, said.split(';')[0].replace('./', '')), (74, '', wanted))
-            after = {**FILES, 'folder': None, 'second': EMPTY, 'third': EMPTY}
+            front = f'tronalhet: cannot write side.wav: it has {has}, by which the old file would stay; --replace '
+            expect(f'{words}, several names', (status, shown, said.replace('./', '')[:len(front)]), (74, '', front))
+            after = {**FILES, 'folder': None, **{name: EMPTY for name in others}}
             expect(f'{words}, several names, the files', kept(folder), after)
             status, _, said = run([*HOST, *IN_PLACE, '--replace'], folder)
-            wanted = 'tronalhet: side.wav: its 2 other names (hard links) keep the old file\n'
-            expect(f'{words}, several names, replaced', (status, said), (0, wanted))
+            expect(f'{words}, several names, replaced', (status, said),
+                   (0, f'tronalhet: side.wav: its {keep} the old file\n'))
             expect(f'{words}, several names, then', kept(folder), {**after, 'side.wav': ADDED_SONG[1]})
 
 

@@ -2,6 +2,7 @@
 import contextlib
 import fcntl
 import os
+import shutil
 import time
 
 from host.run import ADDED, ADDED_SONG, DECODED, FILES, HOST, IN_PLACE, NEW, OTHER, added, parts
@@ -144,6 +145,22 @@ def ten_adds():
         expect('ten adds, the songs', {song.number: song.sound for song in second_side.songs(made)}, songs)
         expect('ten adds, the size', len(made), len(EMPTY) + 24 + 36 * 10 + sum(map(len, songs.values())))
         expect('ten adds, what is left', (parts(folder), os.readlink(folder / 'folder' / 'link')), ([], '../side.wav'))
+
+
+def replaced_meanwhile():
+    """An add that is held up at any of its looks at files, while another replaces the side, does not take the side for
+    another file: both songs are on it. Only where a run can be held up so."""
+    for turn in range(1, 13):
+        hold = ['strace', '-f', '-o', 'log', '-e', 'trace=statx', '-e', f'inject=statx:delay_enter=300000:when={turn}']
+        with sides() as folder:
+            if not shutil.which('strace') or run([*hold, 'true'], folder)[0] != 0:
+                return
+            with start([*hold, *HOST, *IN_PLACE], folder) as held:
+                time.sleep(0.15)
+                other = run([*HOST, 'add', 'side.wav', 'other.wav', '--number=8', '--limit=9999'], folder)
+                held.communicate(timeout=60)
+            songs = [song.number for song in second_side.songs((folder / 'side.wav').read_bytes())]
+            expect(f'an add held up at look {turn}', (held.returncode, other[0], sorted(songs)), (0, 0, [7, 8]))
 
 
 def ten_sides():

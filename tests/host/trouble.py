@@ -37,7 +37,7 @@ def not_read():
                          ('n' * 300, errno.ENAMETOOLONG)):
         for words in reading(name):
             trouble(' '.join(words)[:99], words, {**FILES, 'dangling': 'nowhere', 'loop': 'loop'},
-                    f'cannot read {name}: {os.strerror(reason)}')
+                    f"cannot read {name or chr(39) * 2}: {os.strerror(reason)}")
     trouble('add in place to nothing', ['add', 'nowhere.wav', 'song.wav', *ADDED], FILES,
             f'cannot read nowhere.wav: {os.strerror(missing)}')
     folder = os.open(ROOT, os.O_RDONLY)
@@ -96,10 +96,20 @@ def links():
     """Where OUT is a link, the file that it leads to is written, be it there or not, and the link stays."""
     files = {**FILES, 'old.wav': b'old', 'to old': 'second link', 'second link': './old.wav', 'to song': 'song.wav',
              'to side': 'side.wav', 'to new': 'folder/new.wav'}
-    for link, file, words in (('to old', 'old.wav', ['--replace']), ('to new', 'folder/new.wav', [])):
-        does(f'decode to a link {link}', ['decode', 'to song', link, *words], files, DECODED, out=file)
-    does('add by a link', ['add', 'to side', 'song.wav', *ADDED], files, ADDED_SONG, out='side.wav')
-    does('a new side by a link', ['new-side', 'to new', *NEW], files, (['bytes 44'], EMPTY), out='folder/new.wav')
+    for words, link, path, (lines, made) in (
+            (['decode', 'to song', 'to old', '--replace'], 'to old', './old.wav', DECODED),
+            (['decode', 'to song', 'to new'], 'to new', 'folder/new.wav', DECODED),
+            (['add', 'to side', 'song.wav', *ADDED], 'to side', 'side.wav', ADDED_SONG),
+            (['new-side', 'to new', *NEW], 'to new', 'folder/new.wav', (['bytes 44'], EMPTY))):
+        does(f'{words}', words, files, (lines, made), out=path.removeprefix('./'),
+             remarks=[f'tronalhet: {link}: it is a link, and {path} was written'])
+
+
+def unfinished_names():
+    """A file is not written under a name by which the next run would remove it."""
+    for name in ('.tronalhet-1-0.part', 'folder/.tronalhet-22-333.part'):
+        for words in writing(name):
+            trouble(f'{words}', words, FILES, f'cannot write {name}: such names are for unfinished files')
 
 
 def new_names():
@@ -219,7 +229,8 @@ def not_shown():
                                  (['list', 'song.wav'], second_reader.listing(SONG)[0][0], {}),
                                  (['encode', 'song.wav', 'new.wav', '--align=6'], 'refused 9', {}),
                                  (IN_PLACE, 'added 7', {'side.wav': ADDED_SONG[1]})):
-        front = f'tronalhet: cannot write to standard output: {told}'
+        full = os.strerror(errno.ENOSPC)
+        front = f'tronalhet: cannot write to standard output: {full}; the answer was: {told}'
         tried(f'{words} to a full device', ['bash', '-c', '"$@" >/dev/full', 'bash', *HOST, *words], FILES,
               (74, front), changed, lambda answered, front=front: (answered[0], answered[2][:len(front)]))
 

@@ -85,7 +85,7 @@ def past_a_limit():
 
 def living_parts():
     """What a run that lives has locked is left alone, and what is no unfinished file of the command too."""
-    others = ['tronalhet-1-0.part', '.tronalhet-1-0.wav', 'song.wav.part', '.part']
+    others = ['.tronalhet-mine.part', 'tronalhet-1-0.part', '.tronalhet-1-0.wav', 'song.wav.part', '.part']
     with holding({**FILES, **{other: b'part' for other in others}}) as folder:
         living, dead = folder / '.tronalhet-1-0.part', folder / '.tronalhet-2-0.part'
         put(living, b'part')

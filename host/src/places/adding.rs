@@ -179,6 +179,9 @@ pub fn way_out_of_adding(
         Refusal::FormatWrong => way_out(refusal, song, song_name, Some(&there.format)),
         Refusal::SongEmptyOrDifferent if heard.frames.0 == 0 => Some("ask for the song again: it has no sound".into()),
         Refusal::SongEmptyOrDifferent => Some("if it is another song, give it another number".into()),
+        Refusal::NoPlaceOnSide if heard.frames > limit => {
+            Some("the song alone is longer than the limit: no side has room for it".into())
+        }
         Refusal::NoPlaceOnSide => room_left(&there, limit),
         _ => None,
     }
