@@ -1,4 +1,4 @@
-//! Links the proved library, which `rt staticlib wave_c` makes.
+//! Links the proved library, which `host/build` makes.
 use std::path::PathBuf;
 
 fn main() {

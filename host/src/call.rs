@@ -128,7 +128,7 @@ pub const COMMANDS: &[Command] = &[
 
 /// What is said below the commands, and below the options of each.
 pub const FILES: &str = "\
-A file may have 1,073,741,824 bytes. For a file that is read, - is standard input. A new file gets its name only
+A file has at most 1,073,741,824 bytes. For a file that is read, - is standard input. A new file gets its name only
 when it is whole and on the disk, and takes the place of another only where that is SIDE, or with --replace.
 A refusal is reported by its number; standard error says where it is, what it means, and a way out if there is one.
 ";

@@ -30,12 +30,12 @@ from host.writing import flushed, full_disk, living_parts, no_parts, past_a_limi
 from trying import WRONG, expect, report
 
 # Those that take longest come first, as the parts are run side by side.
-PARTS = (full_size, on_files, two_builds, many_decodes, replaced_meanwhile, placed, glanced, on_kept_sides, records, checked,
-         block_places, wrong_files, wrong_songs, other_refusals, ways_out, ways_to_side, ways_out_by_name, three_lines,
-         names, for_scripts, from_input, slow_input, called_wrongly, no_numbers, called, helps, json_page, not_read,
-         not_written, special_files, same_file, links, unfinished_names, new_names, modes, not_allowed, shared, devices,
-         hidden_folder, not_shown, no_memory, full_disk, really_full_disk, past_a_limit, living_parts, no_parts,
-         flushed, not_replaced, meanwhile, other_sounds, backups, kept_twice, links_of_backups, several_names,
+PARTS = (full_size, on_files, two_builds, many_decodes, replaced_meanwhile, placed, glanced, on_kept_sides, records,
+         checked, block_places, wrong_files, wrong_songs, other_refusals, ways_out, ways_to_side, ways_out_by_name,
+         three_lines, names, for_scripts, from_input, slow_input, called_wrongly, no_numbers, called, helps, json_page,
+         not_read, not_written, special_files, same_file, links, unfinished_names, new_names, modes, not_allowed,
+         shared, devices, hidden_folder, not_shown, no_memory, full_disk, really_full_disk, past_a_limit, living_parts,
+         no_parts, flushed, not_replaced, meanwhile, other_sounds, backups, kept_twice, links_of_backups, several_names,
          closed_streams, closed_pipes, names_on_one_line, nothing_written, stuck_songs, waits, elsewhere, ten_adds,
          ten_sides, handed_over, own_words, playing, built, built_again, changed_meanwhile, not_built, counted,
          killed_build, everything, not_installed, installed_command, compiled, man_page, completed, by_wave, story,
