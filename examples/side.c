@@ -35,8 +35,8 @@ static struct bytes read_file(const char *name)
     if (file == NULL)
         stop(name, "cannot be opened");
     long size = fseek(file, 0, SEEK_END) == 0 ? ftell(file) : -1;
-    if (size < 1)
-        stop(name, "is empty or no file");
+    if (size < 1 || size > TRONALHET_MOST_BYTES)
+        stop(name, "is empty, too long or no file");
     rewind(file);
     struct bytes content = room_for((size_t)size);
     if (fread(content.at, 1, content.count, file) != content.count)

@@ -150,10 +150,14 @@ def ways_to_side():
             ('the same again', side, song(3, 8), 8, 99, 18, None),
             ('too long', side, song(20), 5, 21, 17,
              'a song of at most 16 frames (0:00.002) fits; start another side for this one'),
-            ('full', side, song(20), 5, 5, 17, 'start another side: no song fits on this one'),
+            ('full', side, song(4), 5, 5, 17, 'start another side: no song fits on this one'),
+            ('longer than any side', side, song(20), 5, 19, 17,
+             'the song alone is longer than the limit: no side has room for it'),
             ('64 songs', side_files.full_side(64), song(), 5, 999, 17, 'start another side: no song fits on this one'),
             ('exchanged', song(), side, 5, 99, 19, 'the side comes first: tronalhet add SIDE SONG'),
-            ('no side', song(), song(), 5, 99, 19, None),
+            ('a song as a side', song(), song(), 5, 99, 19,
+             'start a side for it: tronalhet new-side SIDE --channels 1 --rate 8000'),
+            ('no side', wave(fmt(), cue(point(7, 1)), data()), song(), 5, 99, 19, None),
             ('a broken side', side[:-2], song(), 5, 99, 19, 'use an earlier copy of the side')):
         words = ['add', 'side.wav', 'song.wav', '--number', number, '--limit', limit]
         offers(f'add, {label}', words, {'side.wav': there, 'song.wav': sent}, refusal, line)

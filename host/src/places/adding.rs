@@ -172,9 +172,12 @@ pub fn way_out_of_adding(
         Err(_) => return Some("use an earlier copy of the side".into()),
     };
     match refusal {
-        Refusal::NotASide => {
-            let exchanged = no_side(&heard, song).is_none();
-            exchanged.then(|| "the side comes first: tronalhet add SIDE SONG".into())
+        Refusal::NotASide if no_side(&heard, song).is_none() => {
+            Some("the side comes first: tronalhet add SIDE SONG".into())
+        }
+        Refusal::NotASide if there.cues.is_empty() => {
+            let Format { channels, rate, .. } = heard.format;
+            Some(format!("start a side for it: tronalhet new-side SIDE --channels {channels} --rate {rate}"))
         }
         Refusal::FormatWrong => way_out(refusal, song, song_name, Some(&there.format)),
         Refusal::SongEmptyOrDifferent if heard.frames.0 == 0 => Some("ask for the song again: it has no sound".into()),
