@@ -1,6 +1,5 @@
 """Nothing is lost by a slip of a person: what is there is not replaced, what is replaced can be kept, and what is odd
 is said."""
-import errno
 import os
 import subprocess
 
@@ -35,7 +34,7 @@ def not_replaced():
 
 def meanwhile():
     """A file that appears at OUT while the song is awaited, or changes there, is not replaced either."""
-    for words, why in ((['decode', 'pipe', 'new.wav'], os.strerror(errno.EEXIST)),
+    for words, why in ((['decode', 'pipe', 'new.wav'], 'it is there already'),
                        (['encode', 'pipe', 'old.wav', '--replace'], 'it changed while the new file was made')):
         out = words[2]
         with holding({'old.wav': b'old'}) as folder:

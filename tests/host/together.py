@@ -133,7 +133,13 @@ def all_at_once(commands, folder):
 
 
 def ten_adds():
-    """Ten adds at the same moment: all ten songs are on the side, in some order and each whole."""
+    """Ten adds at the same moment, ten times: what could go wrong takes a moment that is not always hit."""
+    for _ in range(10):
+        ten_songs()
+
+
+def ten_songs():
+    """Ten songs are added at the same moment: all are on the side, in some order and each whole."""
     songs = {number: side_files.sound_of(3000 + number, number) for number in range(1, 11)}
     with sides() as folder:
         for number, sound in songs.items():
