@@ -172,5 +172,5 @@ fn songs_that_do_not_suit_a_side() {
     let (which, place, way) = add(Refusal::NoPlaceOnSide, &side, &long);
     assert_eq!(which, Which::Side);
     assert_eq!(place, "0 frames and 44102 of the song are 44102: 44100 frames (0:01.000) above the limit of 2");
-    assert_eq!(way, "a song of at most 2 frames (0:00.000) fits; start another side for this one");
+    assert_eq!(way, "the song alone is longer than the limit: no side has room for it");
 }
