@@ -238,7 +238,8 @@ impl Unfinished {
         };
         target.name(&self.path).map_err(|error| {
             // Nothing was replaced, so there is nothing to keep a second time.
-            let _ = backup.iter().filter(|_| target.is_as_it_was()).try_for_each(fs::remove_file);
+            let spare = |name: &&PathBuf| target.is_as_it_was() || are_same(&target.path, name);
+            let _ = backup.iter().filter(spare).try_for_each(fs::remove_file);
             error
         })?;
         let _ = File::open(&target.folder).and_then(|folder| folder.sync_all());

@@ -135,7 +135,7 @@ def handed_over():
 def own_words():
     """help has tronalhet's and two commands more; a wrong call of these two builds nothing."""
     with clone() as folder:
-        for words in (['demo', 'x'], ['install', 'x', 'y'], ['install', '']):
+        for words in (['demo', 'x'], ['install', 'x', 'y'], ['install', ''], ['install', '--help']):
             status, shown, said = run([folder / 'wave', *words], '/', env=around(folder))
             expect(f'{words}', (status, shown, said.startswith(f'usage: ./wave {words[0]}'), done(folder)),
                    (64, '', True, []))
