@@ -93,14 +93,15 @@ def flags_of(prefix):
 def compiled():
     """The example in C is built by what pkg-config says, and calls the library. All say the same version."""
     compiler, emulator = (['gcc'], []) if NATIVE else (['x86_64-linux-gnu-gcc', '-static'], ['qemu-x86_64'])
-    with installed() as (folder, _):
+    prefix = "it's a prefix#1"
+    with installed(prefix) as (folder, _):
         put(folder / 'song.wav', SONG)
-        words = [*compiler, '-o', 'side', ROOT / 'examples/side.c', *flags_of(folder / 'a prefix')]
+        words = [*compiler, '-o', 'side', ROOT / 'examples/side.c', *flags_of(folder / prefix)]
         expect('the compiler', run(words, folder), (0, '', ''))
         expect('the example', run([*emulator, './side', 'song.wav'], folder),
                (0, 'song 1 at frame 0, 1600 frames\n', ''))
-        header = (folder / 'a prefix/include/tronalhet.h').read_text()
-        file = (folder / 'a prefix/lib/pkgconfig/tronalhet.pc').read_text()
+        header = (folder / prefix / 'include/tronalhet.h').read_text()
+        file = (folder / prefix / 'lib/pkgconfig/tronalhet.pc').read_text()
         versions = [*re.findall('_VERSION "(.*)"', header), *re.findall('^Version: (.*)', file, re.M),
                     '.'.join(re.findall(r'_VERSION_\w+ (\d+)', header))]
         expect('the versions', versions, [VERSION] * 3)
