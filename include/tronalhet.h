@@ -3,7 +3,7 @@
  * Each pair of a pointer and a size_t is a lent buffer and how many elements it has; with 0 elements
  * the pointer may be null. A buffer that is written to overlaps no other that is lent with it.
  *
- * Every function accepts every input. A refusal is its number below, and 0 is success. Where a function
+ * Every function answers every input. A refusal is its number below, and 0 is success. Where a function
  * refuses, it has written nothing, and the other numbers that it answers are 0. Where it succeeds, its
  * output stands from the start of the lent buffer, and the rest of that is as it was.
  *

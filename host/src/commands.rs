@@ -178,8 +178,8 @@ struct Adding<'a> {
     limit: Frames,
 }
 
-/// The song is read before others are kept out, and so is a side that is no file: a pipe that nobody writes to
-/// would else keep them out for ever.
+/// The song is read before others are kept out, and so is a side that is no file: otherwise a pipe that nobody writes
+/// to would keep them out.
 fn add(call: &Call) -> Answer {
     let adding = Adding {
         side: &call.words[0],

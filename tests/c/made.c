@@ -473,7 +473,7 @@ static void break_songs(struct luck *luck, struct plan *plan)
     }
 }
 
-/* The plan stays one that reading takes, mostly, but is no side any more. */
+/* The plan stays one that reading accepts, mostly, but is not a side. */
 void break_side_plan(struct luck *luck, struct plan *plan)
 {
     if (plan->cue_count > 0 && !luck_one_in(luck, 4)) {

@@ -94,14 +94,14 @@ def many_songs(name, song):
     return [f'tronalhet: {name}: it has a playlist of {entries}, and was added as one song'] if count else []
 
 
-def adds(label, side, song, number, limit, about=None, song_name='song.wav', out='side.wav', words=(), **options):
+def adds(label, side, song, number, limit, about=None, song_name='song.wav', out='side.wav'):
     """`add` does what it must with a side and a song, in place or to another file."""
     lines, made = added(side, song, number, limit)
     remarks = [] if made is None else [*left_out('side.wav', side, KNOWN), *left_out(song_name, song, OF_SOUND),
                                        *many_songs(song_name, song), *same_sound(song_name, side, song)]
-    call = ['add', 'side.wav', song_name, '--number', number, '--limit', limit, *words]
+    call = ['add', 'side.wav', song_name, '--number', number, '--limit', limit]
     does(label, call if out == 'side.wav' else [*call, '--out', out], {'side.wav': side, song_name: song},
-         (lines, made), about or song_name, out, remarks, **options)
+         (lines, made), about or song_name, out, remarks)
 
 
 def does(label, words, files, answered, about='file.wav', out='new.wav', remarks=(), **options):
