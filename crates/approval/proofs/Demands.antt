@@ -15,29 +15,29 @@ use Rattle.formats.specs.Frames.{Sounding}
 use Rattle.rules.specs.declared.Record.{Record}
 use Rattle.reader.specs.Content.{Content, holds}
 use Rattle.reader.proofs.Kept.{content-kept}
-use Rattle.steps.specs.Quality.{Faithful}
-use Rattle.blocks.specs.Block.{samplesPerBlock, framesIn, headersFine}
-use Rattle.ima.specs.declared.Coded.{Coded}
-use Rattle.ima.specs.declared.Encoded.the-variants.{Blocks}
-use Rattle.ima.specs.Encoding.{blocksFor, encodedBytes, encodeVerdict}
-use Rattle.ima.specs.Answer.{encoding}
-use Rattle.ima.specs.Demands.{frameOf, blockIn, heardAt, Heard, Quality}
-use Rattle.ima.proofs.Settling.{Codable}
-use Rattle.ima.proofs.Answers.{Settled, settled-says}
-use Rattle.ima.proofs.Blocks.{per-some, begun}
-use Rattle.ima.proofs.Frames.{block-among}
-use Rattle.ima.proofs.Demands.{accepted, quality}
+use Rattle.ima_code.specs.Quality.{Faithful}
+use Rattle.ima_block.specs.Block.{imaSamples, imaFrames, imaHeadersValid}
+use Rattle.encode.specs.declared.Coded.{Coded}
+use Rattle.encode.specs.declared.Encoded.the-variants.{Blocks}
+use Rattle.encode.specs.Encoding.{blocksFor, encodedBytes, encodeVerdict}
+use Rattle.encode.specs.Answer.{encoding}
+use Rattle.encode.specs.Demands.{frameOf, blockOfBytes, heardAt, Heard, Quality}
+use Rattle.encode.proofs.Settling.{Codable}
+use Rattle.encode.proofs.Answers.{Settled, settled-says}
+use Rattle.encode.proofs.Blocks.{per-some, begun}
+use Rattle.encode.proofs.Frames.{block-among}
+use Rattle.encode.proofs.Demands.{accepted, quality}
 use Rattle.writer.specs.File.{fileOf}
 use Rattle.writer.proofs.Files.{sound-limit}
 use Rattle.writer.proofs.Settling as settling
 use Rattle.writer.proofs.Demands.{bytes-say, content-written}
 use Rattle.writer.proofs.Demands as written
-use Rattle.decoder.specs.Sound.{channelSound, blockFrames, blockFine, blockCount, blockAt, blockSound, wholeSound, dataFine}
-use Rattle.decoder.proofs.Whole.{whole-long, frame-of-whole}
-use Rattle.sound.specs.Decoding.{wholeAnswer, decoding, wholeIn, fileSound}
-use Rattle.sound.proofs.Checks.{whole-fine}
+use Rattle.sound_data.specs.Sound.{channelSound, blockFrames, blockValid, blockCount, blockAt, blockSound, wholeSound, dataValid}
+use Rattle.sound_data.proofs.Whole.{whole-long, frame-of-whole}
+use Rattle.decode.specs.Decoding.{wholeAnswer, decoding, contentSound, fileSound}
+use Rattle.decode.proofs.Checks.{whole-valid}
 use Rattle.approval.specs.Approval.{samplesOf, approvalFormat, approvalRecord}
-use Rattle.approval.specs.Demands.{recordFor, RulesHold, Approved, WholeWay, Sent}
+use Rattle.approval.specs.Demands.{recordFor, RulesHold, Approved, WholeWay, CopyWritten}
 use Rattle.approval.proofs.Rules.{samples-per, codable-is, blocks-are, rules-hold}
 use Rattle.approval.proofs.Sending.{kept-same, record-fits, file-below}
 
@@ -49,16 +49,16 @@ encoded-says s c a room w e =
 
 -- ---- a block of the copy is an IMA block
 module _ (c rate a : ℕ) where
-  block-is : (w : List ℕ) (k : ℕ) → blockAt (approvalFormat c rate a) w k ≡ blockIn a w k
-  unfolding blockAt blockIn approvalFormat
+  block-is : (w : List ℕ) (k : ℕ) → blockAt (approvalFormat c rate a) w k ≡ blockOfBytes a w k
+  unfolding blockAt blockOfBytes approvalFormat
   block-is w k = refl
 
-  fine-is : (b : List ℕ) → blockFine (approvalFormat c rate a) b ≡ headersFine c b
-  unfolding blockFine approvalFormat
+  fine-is : (b : List ℕ) → blockValid (approvalFormat c rate a) b ≡ imaHeadersValid c b
+  unfolding blockValid approvalFormat
   fine-is b = refl
 
-  sound-is : (n : ℕ) (b : List ℕ) → blockFrames (approvalFormat c rate a) n b ≡ framesIn c n b
-  unfolding blockFrames channelSound framesIn approvalFormat
+  sound-is : (n : ℕ) (b : List ℕ) → blockFrames (approvalFormat c rate a) n b ≡ imaFrames c n b
+  unfolding blockFrames channelSound imaFrames approvalFormat
   sound-is n b = refl
 
 module _ (s : List ℤ) (c rate a : ℕ) (v : Codable c a) where
@@ -78,24 +78,24 @@ module _ (s : List ℤ) (c rate a : ℕ) (v : Codable c a) where
 
   module _ {left right : ℕ} (q : Heard s c a bytes left right) where
     -- no block gives 15
-    headers-fine : dataFine format bytes ≡ true
-    unfolding dataFine
-    headers-fine =
-        let p : ℕ = samplesPerBlock c a in
-        every-all (λ k. blockFine format (blockAt format bytes k)) 0 (blockCount format bytes)
+    headers-valid : dataValid format bytes ≡ true
+    unfolding dataValid
+    headers-valid =
+        let p : ℕ = imaSamples c a in
+        every-all (λ k. blockValid format (blockAt format bytes k)) 0 (blockCount format bytes)
         (λ k i l.
         let e : k ≡ k * p / p = sym (mul-div-cancel k (per-some c a)) in
         fine-is c rate a (blockAt format bytes k)
-        ∙ ap (headersFine c) (block-is c rate a bytes k)
-        ∙ ap (λ (m : ℕ). headersFine c (blockIn a bytes m)) e
-        ∙ q .fine (k * p) (begun c a (length s) k (among (omega arith))))
+        ∙ ap (imaHeadersValid c) (block-is c rate a bytes k)
+        ∙ ap (λ (m : ℕ). imaHeadersValid c (blockOfBytes a bytes m)) e
+        ∙ q .valid (k * p) (begun c a (length s) k (among (omega arith))))
 
     -- frame f of a channel of the whole sound is what is heard of it
     frame-heard : Sounding format (record { 0 = length s / c }) bytes → (ch f : ℕ) → ch < c → f < length s / c
         → getD (wholeSound format (length s / c) bytes) (c * f + ch) (pos 0) ≡ heardAt c a bytes ch f .last
     unfolding approvalFormat blockSound
     frame-heard z ch f l h =
-        let p : ℕ = samplesPerBlock c a in
+        let p : ℕ = imaSamples c a in
         let k : ℕ = f / p in
         let j : ℕ = f % p in
         let n : samplesOf c a ≡ p = samples-per v in
@@ -106,8 +106,8 @@ module _ (s : List ℤ) (c rate a : ℕ) (v : Codable c a) where
         (omega arith)
         ∙ ap (λ (xs : List ℤ). getD xs (c * j + ch) (pos 0))
         (sound-is c rate a (samplesOf c a) (blockAt format bytes k)
-        ∙ ap (framesIn c (samplesOf c a)) (block-is c rate a bytes k)
-        ∙ ap (λ (m : ℕ). framesIn c m (blockIn a bytes k)) n)
+        ∙ ap (imaFrames c (samplesOf c a)) (block-is c rate a bytes k)
+        ∙ ap (λ (m : ℕ). imaFrames c m (blockOfBytes a bytes k)) n)
         ∙ q .sounded ch f l h
 
 -- ---- the file
@@ -122,14 +122,14 @@ approved s c rate a room most w file z e held enough =
     let same : (ch f : ℕ) → ch < c → f < length s / c
     → frameOf c (fileSound file) ch f ≡ heardAt c a bytes ch f .last =
     λ ch f l h.
-    ap (λ (x : Content). getD (wholeIn x) (c * f + ch) (pos 0)) held
-    ∙ frame-heard s c rate a (t .fine) q kept ch f l h in
+    ap (λ (x : Content). getD (contentSound x) (c * f + ch) (pos 0)) held
+    ∙ frame-heard s c rate a (t .valid) q kept ch f l h in
     record {
       frames =
           ap (λ (x : Content). wholeAnswer x most) held
-          ∙ sym (whole-fine (approvalFormat c rate a) (length s / c) bytes most (omega arith) {fine = true}
-          (sym (headers-fine s c rate a (t .fine) q)) refl);
-      long = ap (λ (x : Content). length (wholeIn x)) held ∙ whole-long kept ∙ size;
+          ∙ sym (whole-valid (approvalFormat c rate a) (length s / c) bytes most (omega arith) {valid = true}
+          (sym (headers-valid s c rate a (t .valid) q)) refl);
+      long = ap (λ (x : Content). length (contentSound x)) held ∙ whole-long kept ∙ size;
       decoded = same;
       opening = λ ch f l h g. same ch f l h ∙ q .opening ch f l h g;
       later = λ ch f l h g.
@@ -152,11 +152,11 @@ whole-way s c rate a room size most told n z e put enough =
     let held = content-written m w size n fits put ∙ ap (λ (x : Record). holds x w) (kept-same c rate a frames) in
     approved s c rate a room most told (fileOf m w) z e held enough
 
-pub sent : Sent
-unfolding Sent RulesHold
+pub sent : CopyWritten
+unfolding CopyWritten RulesHold
 sent s c rate a room size told e h g fits =
     let t : Settled (length s) c a room = encoded-says s c a room told e in
     let m = recordFor s c rate a in
     let w : List ℕ = encodedBytes c a s in
-    written.accepted m w size (rules-hold s c rate a (codable-is (t .fine)) h g)
-    (file-below s c rate a (t .fine) (t .small)) fits
+    written.accepted m w size (rules-hold s c rate a (codable-is (t .valid)) h g)
+    (file-below s c rate a (t .valid) (t .small)) fits

@@ -12,16 +12,16 @@ use Rattle.tables.specs.declared.Cues.{Cues}
 use Rattle.tables.specs.declared.Playlist.{Playlist}
 use Rattle.tables.specs.Cues.{noCues}
 use Rattle.tables.specs.Plays.{noPlays}
-use Rattle.blocks.specs.Block.{samplesPerBlock}
-use Rattle.ima.specs.Encoding.{codable}
-use Rattle.ima.proofs.Settling.{codable-says, fine-some, fine-room, fine-most}
+use Rattle.ima_block.specs.Block.{imaSamples}
+use Rattle.encode.specs.Encoding.{codable}
+use Rattle.encode.proofs.Settling.{codable-says, fine-some, fine-room, fine-most}
 use Rattle.approval.specs.Approval.{samplesOf, approvalFormat, approvalRecord}
 
 -- ---- samples per block
 module _ (c a : ℕ) {r : Bool} (e : r ≡ codable c a) where
   pub samples-none : r ≡ false → 0 ≡ samplesOf c a
   unfolding samplesOf
-  samples-none f = ap (λ (b : Bool). cond b (samplesPerBlock c a) 0) (sym f ∙ e)
+  samples-none f = ap (λ (b : Bool). cond b (imaSamples c a) 0) (sym f ∙ e)
 
   module _ (f : r ≡ true) where
     pub head-fits : Fits w16 (4 * c)
@@ -35,8 +35,8 @@ module _ (c a : ℕ) {r : Bool} (e : r ≡ codable c a) where
     samples-fit g = record { fits = omega (arith, fine-most c a e f, div-le-self ((a - 4 * c) * 2) c) }
 
     pub samples-are : (a - 4 * c) * 2 / c + 1 ≡ samplesOf c a
-    unfolding samplesOf samplesPerBlock
-    samples-are = ap (λ (b : Bool). cond b (samplesPerBlock c a) 0) (sym f ∙ e)
+    unfolding samplesOf imaSamples
+    samples-are = ap (λ (b : Bool). cond b (imaSamples c a) 0) (sym f ∙ e)
 
 pub ruleset counting = (samples-none, head-fits, codes-fit, samples-fit, samples-are, fine-some, fine-room, fine-most, not-true, not-false)
 

@@ -21,13 +21,13 @@ use Rattle.lists.proofs.Laws.{by-eqb}
 use Rattle.tables.specs.Tables.{held}
 use Rattle.tables.specs.Cues.{namesIn, placesIn, cuesRule}
 use Rattle.tables.specs.Plays.{allPlayable, playsRule}
-use Rattle.blocks.specs.Block.{samplesPerBlock}
-use Rattle.ima.specs.Encoding.{codable, blocksFor, encodedBytes}
-use Rattle.ima.proofs.Settling.{Codable, codable-says, codable-long}
-use Rattle.ima.proofs.Answers.{length-encoded}
-use Rattle.ima.proofs.Blocks.{per-some}
-use Rattle.ima.proofs.Frames.{blocks-enough}
-use Rattle.ima.proofs.Heard.{length-bytes-of}
+use Rattle.ima_block.specs.Block.{imaSamples}
+use Rattle.encode.specs.Encoding.{codable, blocksFor, encodedBytes}
+use Rattle.encode.proofs.Settling.{Codable, codable-says, codable-long}
+use Rattle.encode.proofs.Answers.{length-encoded}
+use Rattle.encode.proofs.Blocks.{per-some}
+use Rattle.encode.proofs.Frames.{blocks-enough}
+use Rattle.encode.proofs.Heard.{length-bytes-of}
 use Rattle.approval.specs.Approval.{samplesOf, approvalFormat, approvalRecord}
 use Rattle.approval.specs.Demands.{RulesHold, RuleBroken}
 use Rattle.approval.proofs.Laws.{samples-none, samples-are}
@@ -36,13 +36,13 @@ module _ {c a : ℕ} (w : Codable c a) where
   pub codable-is : codable c a ≡ true
   codable-is = sym (codable-long c a (w .some) (w .two) (w .whole) (w .least)) ∙ le-leb a 4096 (w .most)
 
-  pub samples-per : samplesOf c a ≡ samplesPerBlock c a
-  unfolding samplesPerBlock
+  pub samples-per : samplesOf c a ≡ imaSamples c a
+  unfolding imaSamples
   samples-per = sym (samples-are c a refl codable-is)
 
   -- ---- 9
   format-kept : (rate : ℕ) → 1 ≤ rate → rate ≤ 192000 → formatRule (approvalFormat c rate a) ≡ true
-  unfolding formatRule shared imaRule blocked approvalFormat samplesPerBlock
+  unfolding formatRule shared imaRule blocked approvalFormat imaSamples
   format-kept rate h g =
       let some = w .some in
       let two = w .two in
@@ -77,10 +77,10 @@ module _ {c a : ℕ} (w : Codable c a) where
     unfolding blocksIn approvalFormat
     blocks-are rate = sym (ap (λ (n : ℕ). n / a) sound-long ∙ mul-div-cancel blocks some-align)
 
-    count-fits : true ≡ countFits blocks (samplesPerBlock c a) (length s / c)
+    count-fits : true ≡ countFits blocks (imaSamples c a) (length s / c)
     unfolding blocksFor
     count-fits =
-        let p : ℕ = samplesPerBlock c a in
+        let p : ℕ = imaSamples c a in
         let f : ℕ = length s / c in
         by-eqb blocks 0 (λ _. true ≡ countFits blocks p f)
         (λ z.

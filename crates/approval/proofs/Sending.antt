@@ -22,10 +22,10 @@ use Rattle.rules.specs.Rules.{Writable}
 use Rattle.rules.specs.Written.{recordKept, RecordFits}
 use Rattle.writer.specs.File.{fileOf}
 use Rattle.writer.proofs.Sizes.{file-size, fact-size, cues-none, plays-none}
-use Rattle.blocks.specs.Block.{samplesPerBlock}
-use Rattle.ima.specs.Encoding.{blocksFor, encodedBytes}
-use Rattle.ima.proofs.Settling.{Codable}
-use Rattle.ima.proofs.Heard.{by-channels}
+use Rattle.ima_block.specs.Block.{imaSamples}
+use Rattle.encode.specs.Encoding.{blocksFor, encodedBytes}
+use Rattle.encode.proofs.Settling.{Codable}
+use Rattle.encode.proofs.Heard.{by-channels}
 use Rattle.approval.specs.Approval.{approvalFormat, approvalRecord}
 use Rattle.approval.specs.Demands.{recordFor}
 use Rattle.approval.proofs.Rules.{sound-long}
@@ -92,20 +92,20 @@ module _ (s : List ℤ) (c rate a : ℕ) (w : Codable c a) where
       omega arith
 
   -- a block has no more bytes than samples
-  dense : a ≤ c * samplesPerBlock c a
-  unfolding samplesPerBlock
-  dense = by-channels (λ n. a ≤ n * samplesPerBlock n a) w (λ e. omega (arith, w .least)) (λ e. omega (arith, w .least))
+  dense : a ≤ c * imaSamples c a
+  unfolding imaSamples
+  dense = by-channels (λ n. a ≤ n * imaSamples n a) w (λ e. omega (arith, w .least)) (λ e. omega (arith, w .least))
 
   -- and half a byte for each sample at least
-  spare : c * samplesPerBlock c a ≤ 2 * a
-  unfolding samplesPerBlock
-  spare = by-channels (λ n. n * samplesPerBlock n a ≤ 2 * a) w (λ e. omega (arith, w .least)) (λ e. omega (arith, w .least))
+  spare : c * imaSamples c a ≤ 2 * a
+  unfolding imaSamples
+  spare = by-channels (λ n. n * imaSamples n a ≤ 2 * a) w (λ e. omega (arith, w .least)) (λ e. omega (arith, w .least))
 
   -- no more bytes than samples, but for what fills the last block
   sound-bound : length bytes ≤ length s + 8192
   unfolding blocksFor
   sound-bound =
-      let p : ℕ = samplesPerBlock c a in
+      let p : ℕ = imaSamples c a in
       let f : ℕ = length s / c in
       let b : ℕ = (f + p - 1) / p in
       let x : b * a ≤ b * (c * p) = mul-le-mul-left b dense in

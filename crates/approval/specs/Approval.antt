@@ -6,12 +6,12 @@ use Rattle.formats.specs.declared.Format.{Format}
 use Rattle.tables.specs.Cues.{noCues}
 use Rattle.tables.specs.Plays.{noPlays}
 use Rattle.rules.specs.declared.Record.{Record}
-use Rattle.blocks.specs.Block.{samplesPerBlock}
-use Rattle.ima.specs.Encoding.{codable}
+use Rattle.ima_block.specs.Block.{imaSamples}
+use Rattle.encode.specs.Encoding.{codable}
 
 -- samples per block by the formula; 0, which no format has, where encoding refuses the channels or the align
 unfoldable pub samplesOf : ℕ → ℕ → ℕ
-samplesOf c a = cond (codable c a) (samplesPerBlock c a) 0
+samplesOf c a = cond (codable c a) (imaSamples c a) 0
 
 -- IMA: tag 17, 4 bits
 unfoldable pub approvalFormat : ℕ → ℕ → ℕ → Format

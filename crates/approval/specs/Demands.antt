@@ -11,15 +11,15 @@ use Rattle.formats.specs.Format.{formatRule}
 use Rattle.rules.specs.declared.Record.{Record}
 use Rattle.rules.specs.Rules.{Writable}
 use Rattle.reader.specs.Content.{holds, contentOf}
-use Rattle.steps.specs.Quality.{Sixteen, Faithful, atMost}
-use Rattle.blocks.specs.Block.{samplesPerBlock}
-use Rattle.ima.specs.declared.Coded.{Coded}
-use Rattle.ima.specs.declared.Encoded.the-variants.{Blocks}
-use Rattle.ima.specs.Encoding.{encodedBytes, codable}
-use Rattle.ima.specs.Answer.{encoding}
-use Rattle.ima.specs.Demands.{frameOf, heardAt, chasedFrames, Heard}
-use Rattle.sound.specs.declared.Decoded.the-variants.{Frames}
-use Rattle.sound.specs.Decoding.{decoding, fileSound}
+use Rattle.ima_code.specs.Quality.{Sixteen, Faithful, atMost}
+use Rattle.ima_block.specs.Block.{imaSamples}
+use Rattle.encode.specs.declared.Coded.{Coded}
+use Rattle.encode.specs.declared.Encoded.the-variants.{Blocks}
+use Rattle.encode.specs.Encoding.{encodedBytes, codable}
+use Rattle.encode.specs.Answer.{encoding}
+use Rattle.encode.specs.Demands.{frameOf, heardAt, chasedFrames, Heard}
+use Rattle.decode.specs.declared.Decoded.the-variants.{Frames}
+use Rattle.decode.specs.Decoding.{decoding, fileSound}
 use Rattle.writer.specs.declared.Written.the-variants.{Bytes}
 use Rattle.writer.specs.File.{fileOf, writing}
 use Rattle.approval.specs.Approval.{approvalRecord}
@@ -47,11 +47,11 @@ pub record Copy (s : List ℤ) (c a : ℕ) (told : Coded) (file : List ℕ) (roo
   pub decoded : (ch f : ℕ) → ch < c → f < length s / c
       → frameOf c (fileSound file) ch f ≡ heardAt c a (encodedBytes c a s) ch f .last
   -- in each channel the first sample of a block is exact
-  pub opening : (ch f : ℕ) → ch < c → f < length s / c → f % samplesPerBlock c a ≡ 0
+  pub opening : (ch f : ℕ) → ch < c → f < length s / c → f % imaSamples c a ≡ 0
       → frameOf c (fileSound file) ch f ≡ frameOf c s ch f
   -- a later one is within an eighth of the step, rounded down, plus 2 of the original; or it is chased, and then
   -- strictly nearer than its prediction was and not beyond the original
-  pub later : (ch f : ℕ) → ch < c → f < length s / c → 0 < f % samplesPerBlock c a
+  pub later : (ch f : ℕ) → ch < c → f < length s / c → 0 < f % imaSamples c a
       → Faithful (heardAt c a (encodedBytes c a s) ch (f - 1)) (frameOf c s ch f) (frameOf c (fileSound file) ch f)
   -- no channel has 12 chased samples in succession
   pub succession : (ch : ℕ) → ch < c → atMost 11 (chasedFrames c a s (encodedBytes c a s) ch) ≡ true
@@ -78,8 +78,8 @@ WholeWay =
 
 -- and writing takes the blocks of every sound that encoding accepts, at a rate from 1 to 192,000, where there is room for the
 -- file: the file is never above the limit
-unfoldable pub Sent : Type 0
-Sent =
+unfoldable pub CopyWritten : Type 0
+CopyWritten =
     (s : List ℤ) (c rate a room size : ℕ) (told : Coded) → encoding s c a room ≡ Blocks told → 1 ≤ rate → rate ≤ 192000
     → length (fileOf (recordFor s c rate a) (encodedBytes c a s)) ≤ size
     → writing (recordFor s c rate a) (encodedBytes c a s) size

@@ -9,10 +9,10 @@ ghost use Rattle.approval.specs.Approval.{samplesOf, approvalRecord};
 // The samples of an IMA block in each channel; 0, where there are no blocks of so many channels and
 // this align.
 fn samples_of(channels: u16, align: u16) -> u16
-    ensures { λ r. ⌜ r ≡ samplesOf channels align ⌝ }
+    ensures answer { λ r. ⌜ r ≡ samplesOf channels align ⌝ }
 {
-    let fine = ima::is_codable(channels as usize, align as usize);
-    if !fine {
+    let valid = encode::is_codable(channels as usize, align as usize);
+    if !valid {
         return 0;
     }
     (align - 4 * channels) * 2 / channels + 1
@@ -21,7 +21,7 @@ fn samples_of(channels: u16, align: u16) -> u16
 // The record of an approval copy: IMA sound of some channels at a rate, in blocks of an align, so many
 // frames; no cues and no playlist.
 pub fn record_of(channels: u16, rate: u32, align: u16, frames: Frames) -> Record
-    ensures { λ r. ⌜ r ≡ approvalRecord channels rate align frames ⌝ }
+    ensures answer { λ r. ⌜ r ≡ approvalRecord channels rate align frames ⌝ }
 {
     let format = Format {
         tag: IMA,

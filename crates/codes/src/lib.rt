@@ -40,7 +40,7 @@ pub enum Code {
 
 // A code as the number that its four letters are in a file.
 fn number(code: Code) -> u32
-    ensures { λ r. ⌜ r ≡ codeNumber code ⌝ }
+    ensures answer { λ r. ⌜ r ≡ codeNumber code ⌝ }
 {
     match code {
         Code::Riff => RIFF,
@@ -57,7 +57,7 @@ fn number(code: Code) -> u32
 
 // Whether a code stands at a place; past the end none does.
 pub fn is_at(bytes: &[u8], at: usize, code: Code) -> bool
-    ensures { λ r. ⌜ r ≡ isAt (now (bytes .entry)) at code ⌝ }
+    ensures answer { λ r. ⌜ r ≡ isAt (now (bytes .entry)) at code ⌝ }
 {
     little::u32_or_zero(bytes, at) == number(code)
 }
@@ -65,7 +65,7 @@ pub fn is_at(bytes: &[u8], at: usize, code: Code) -> bool
 // Puts a code at a place.
 pub fn put(out: &mut [u8], at: usize, code: Code)
     requires { ⌜ at + 4 ≤ length (now out) ⌝ }
-    ensures { λ _. ⌜ Put (now (out .entry)) at (codeBytes code) (now (out .exit)) ⌝ }
+    ensures buffer { λ _. ⌜ Put (now (out .entry)) at (codeBytes code) (now (out .exit)) ⌝ }
 {
     little::put_u32(out, at, number(code));
 }

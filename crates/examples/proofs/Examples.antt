@@ -5,19 +5,19 @@ use Rattle.lists.specs.States.{through}
 use Rattle.lists.specs.Turns.{values, joined, inTurn, picked}
 use Rattle.lists.specs.Every.{every}
 use Rattle.formats.specs.Frames.{needsFact, blocksIn}
-use Rattle.steps.specs.Code.{stepAt, hasBit, sizeOf, signedBy, difference, indexFrom, decoded, bitIf, leftOf, bitsFor, codeOf, codeFor, tracked, isChased}
-use Rattle.steps.specs.Machine.{codesOf, after, chasedOf}
-use Rattle.blocks.specs.Block.{samplesPerBlock, channelPart, headersFine}
-use Rattle.blocks.specs.Block as block
-use Rattle.coder.specs.Part.{taken, packed, headBytes, codedPart, closingIndex, chasedPart, countOf}
-use Rattle.ima.specs.Encoding.{blockOf, openIndex, partOf, chasedBlock, blockBytes, blocksFor, encodedBytes, chasedIn, chasedCount}
-use Rattle.prediction.specs.Nibble.{signedNibble, predicted, sampleAfter, heldDelta, deltaAfter}
-use Rattle.prediction.specs.Nibble as nibble
-use Rattle.msadpcm.specs.Block.{predictorOf, coefficient, opened, nibbles, channelNibbles, heard, soundIn}
-use Rattle.decoder.specs.Sound.{pcmSample, channelSound, blockFrames, blockFine, hasBlock, blockCount, blockAt, blockSound, wholeSound}
-use Rattle.sound.specs.Decoding.{blockVerdict}
+use Rattle.ima_code.specs.Code.{stepAt, hasBit, differenceSize, signedBy, difference, indexFrom, afterCode, bitIf, leftOf, bitsFor, codeOf, codeFor, tracked, isChased}
+use Rattle.ima_code.specs.Machine.{codesOf, after, chasedOf}
+use Rattle.ima_block.specs.Block.{imaSamples, channelPart, imaHeadersValid}
+use Rattle.ima_block.specs.Block as block
+use Rattle.ima_coder.specs.Part.{samplesFrom, packed, blockHead, codedPart, closingIndex, chasedPart, countOf}
+use Rattle.encode.specs.Encoding.{blockOf, openIndex, channelBytes, chasedBlock, blockBytes, blocksFor, encodedBytes, chasedIn, chasedCount}
+use Rattle.ms_code.specs.Nibble.{signedNibble, predicted, sampleAfter, heldDelta, deltaAfter}
+use Rattle.ms_code.specs.Nibble as nibble
+use Rattle.ms_block.specs.Block.{predictorOf, coefficient, msOpened, highFirst, channelNibbles, msHeard, msSound}
+use Rattle.sound_data.specs.Sound.{pcmSample, channelSound, blockFrames, blockValid, hasBlock, blockCount, blockAt, blockSound, wholeSound}
+use Rattle.decode.specs.Decoding.{blockVerdict}
 use Rattle.examples.specs.Examples.{coded, written, mono, microsoft, eights, headed, examples, Worked}
 
 pub worked : Worked
-unfolding Worked examples coded written mono microsoft eights headed codeFor tracked isChased decoded codeOf bitsFor bitIf leftOf stepAt hasBit sizeOf signedBy difference indexFrom hold codesOf after chasedOf encodedBytes chasedCount chasedIn chasedBlock blockBytes partOf blocksFor samplesPerBlock blockOf openIndex taken packed headBytes codedPart closingIndex chasedPart countOf values joined inTurn sampleBytes bytesOf bitsOf blockVerdict hasBlock needsFact blockFine headersFine channelPart every block.opened wholeSound blockSound blockFrames blockCount blockAt channelSound pcmSample blocksIn eight soundIn heard channelNibbles nibbles opened coefficient predictorOf nibble.decoded deltaAfter heldDelta sampleAfter predicted signedNibble through picked sampleAt signedOf numberAt numberIn
+unfolding Worked examples coded written mono microsoft eights headed codeFor tracked isChased afterCode codeOf bitsFor bitIf leftOf stepAt hasBit differenceSize signedBy difference indexFrom hold codesOf after chasedOf encodedBytes chasedCount chasedIn chasedBlock blockBytes channelBytes blocksFor imaSamples blockOf openIndex samplesFrom packed blockHead codedPart closingIndex chasedPart countOf values joined inTurn sampleBytes bytesOf bitsOf blockVerdict hasBlock needsFact blockValid imaHeadersValid channelPart every block.imaOpened wholeSound blockSound blockFrames blockCount blockAt channelSound pcmSample blocksIn eight msSound msHeard channelNibbles highFirst msOpened coefficient predictorOf nibble.afterNibble deltaAfter heldDelta sampleAfter predicted signedNibble through picked sampleAt signedOf numberAt numberIn
 worked = search

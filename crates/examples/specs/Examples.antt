@@ -7,11 +7,11 @@ use lib.IntN.{ℤ, pos, negsuc}
 use lib.ListN.{take, drop, replicate}
 use Rattle.units.specs.Refusals.{verdictNumber}
 use Rattle.formats.specs.declared.Format.{Format}
-use Rattle.steps.specs.declared.State.{State}
-use Rattle.steps.specs.Code.{codeFor, tracked, isChased}
-use Rattle.ima.specs.Encoding.{encodedBytes, chasedCount}
-use Rattle.decoder.specs.Sound.{blockSound, wholeSound}
-use Rattle.sound.specs.Decoding.{blockVerdict}
+use Rattle.ima_code.specs.declared.ImaState.{ImaState}
+use Rattle.ima_code.specs.Code.{codeFor, tracked, isChased}
+use Rattle.encode.specs.Encoding.{encodedBytes, chasedCount}
+use Rattle.sound_data.specs.Sound.{blockSound, wholeSound}
+use Rattle.decode.specs.Decoding.{blockVerdict}
 
 -- what the definitions give, and what document 01 prints
 pub record Example : Type 0 where
@@ -23,7 +23,7 @@ pub record Example : Type 0 where
 -- IMA after 0 at index 0: the code of a sample, what is decoded, and whether it is chased
 unfoldable pub coded : ℤ → List ℤ
 coded x =
-    let t : State = record { last = pos 0; index = 0 } in
+    let t : ImaState = record { last = pos 0; index = 0 } in
     pos (codeFor t x) ∷ tracked t x .last ∷ pos (cond (isChased t x) 1 0) ∷ []
 
 -- a mono sound at align 12: its blocks, and how many samples are chased

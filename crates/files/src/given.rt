@@ -1,5 +1,5 @@
 // The words that a program is called with.
-use crate::trouble::say;
+use crate::errors::say;
 
 // A number that a word says.
 pub enum Said {

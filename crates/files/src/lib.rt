@@ -1,10 +1,10 @@
 // What the programs on files share: the words that they are called with, a file read whole, a new file written,
 // and how long a file is. Whatever goes wrong is reported in one line on standard error.
+mod errors;
 mod given;
 mod reading;
 mod rooms;
 mod sizes;
-mod trouble;
 mod writing;
 
 pub use given::Said;

@@ -1,7 +1,7 @@
 // Reading a file whole.
-use crate::trouble::failed;
+use crate::errors::failed;
 
-// How many bytes were read, or that there was trouble, which was reported.
+// How many bytes were read, or that there was an error, which was reported.
 pub enum Input {
     Bytes(usize),
     Trouble,

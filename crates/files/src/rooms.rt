@@ -5,21 +5,21 @@ ghost use lib.ListN.{length};
 
 // Room for a file, and for one byte more, which shows that a file is longer than a program accepts.
 pub fn file_room() -> [u8; 262145]
-    ensures { λ r. ⌜ 262145 ≡ length r ⌝ }
+    ensures long { λ r. ⌜ 262145 ≡ length r ⌝ }
 {
     [0; 262145]
 }
 
 // Room for the sound of such a file: a byte holds less than two samples in every format.
 pub fn sound_room() -> [i16; 524288]
-    ensures { λ r. ⌜ 524288 ≡ length r ⌝ }
+    ensures long { λ r. ⌜ 524288 ≡ length r ⌝ }
 {
     [0; 524288]
 }
 
 // Room for a file of such a sound: two bytes for each sample at most, and 4,096 for the rest of the file.
 pub fn new_room() -> [u8; 1052672]
-    ensures { λ r. ⌜ 1052672 ≡ length r ⌝ }
+    ensures long { λ r. ⌜ 1052672 ≡ length r ⌝ }
 {
     [0; 1052672]
 }

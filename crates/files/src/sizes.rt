@@ -10,7 +10,7 @@ const LIMIT: usize = 262144;
 
 // Whether a file of so many bytes is too long; if so, it is refused.
 pub fn too_long(n: usize) -> bool
-    ensures { λ r. ⌜ r ≡ ltb 262144 n ⌝ }
+    ensures answer { λ r. ⌜ r ≡ ltb 262144 n ⌝ }
 {
     if LIMIT < n {
         listing::refused(Refusal::LengthOutOfRange);
@@ -26,7 +26,8 @@ pub fn size(file: &[u8]) {
 
 // How many samples of a sound are so many frames.
 pub fn samples_in(frames: Frames, channels: u16) -> usize
-    ensures { λ r. ⌜ (r ≡ frames .0 * channels) × (r ≤ 281474976710656) ⌝ }
+    ensures answer { λ r. ⌜ r ≡ frames .0 * channels ⌝ }
+    ensures bound { λ r. ⌜ r ≤ 281474976710656 ⌝ }
 {
     frames.0 as usize * channels as usize
 }

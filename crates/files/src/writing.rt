@@ -1,5 +1,5 @@
 // Writing a new file.
-use crate::trouble::failed;
+use crate::errors::failed;
 
 // Writes to an open file, and closes it.
 fn stored(file: i32, bytes: &[u8]) -> bool {
@@ -20,10 +20,10 @@ pub fn write(program: &[u8], i: usize, bytes: &[u8]) -> bool {
         failed(program, b": cannot make ", &name[..n]);
         return false;
     }
-    let fine = stored(file, bytes);
-    if !fine {
+    let valid = stored(file, bytes);
+    if !valid {
         failed(program, b": cannot write ", &name[..n]);
         os::unlink(&name[..n]);
     }
-    fine
+    valid
 }

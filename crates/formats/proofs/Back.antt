@@ -10,7 +10,7 @@ use Rattle.little.proofs.Reading.{bytes-say}
 use Rattle.little.proofs.Tests.{tests}
 use Rattle.units.specs.declared.Frames.{Frames}
 use Rattle.formats.specs.declared.Format.{Format}
-use Rattle.formats.specs.Format.{byTag, samplesIn, formatOf, formatRule}
+use Rattle.formats.specs.Format.{byTag, samplesField, formatOf, formatRule}
 use Rattle.formats.specs.Bytes.{averageOf, sharedBytes, extensionBytes, coefficientBytes, formatBytes, factBytes, saidFormat, FormatFits}
 use Rattle.lists.proofs.Laws.{by-eqb}
 use Rattle.formats.proofs.Taken.{by-format}
@@ -44,12 +44,12 @@ module _ (f : Format) (rest : List ℕ) where
   said-bits h = bytes-say 2 (f .bits) h
 
   -- with the samples, they are the format
-  said-format : FormatFits f → samplesIn (sharedBytes f ++ rest) (f .tag) ≡ f .samples → formatOf (sharedBytes f ++ rest) ≡ f
+  said-format : FormatFits f → samplesField (sharedBytes f ++ rest) (f .tag) ≡ f .samples → formatOf (sharedBytes f ++ rest) ≡ f
   unfolding formatOf
   said-format h e =
       let s : List ℕ = sharedBytes f ++ rest in
       let t = said-tag (h .tag) in
-      let n : samplesIn s (numberAt 2 s 0) ≡ f .samples = ap (samplesIn s) t ∙ e in
+      let n : samplesField s (numberAt 2 s 0) ≡ f .samples = ap (samplesField s) t ∙ e in
       λ i. record {
         tag = t i;
         channels = said-channels (h .channels) i;
@@ -62,16 +62,16 @@ module _ (f : Format) (rest : List ℕ) where
 -- ---- the format, for each tag
 module _ (f : Format) (h : FormatFits f) where
   pcm-back : f .tag ≡ 1 → f .samples ≡ 1 → formatOf (formatBytes f) ≡ f
-  unfolding samplesIn
+  unfolding samplesField
   pcm-back t s = rw (bytes-pcm f t) (said-format f [] h (simp (tests, s)))
 
   module _ (n : f .tag ≡ 1 → ⊥) where
     ima-back : f .tag ≡ 17 → formatOf (formatBytes f) ≡ f
-    unfolding samplesIn sharedBytes extensionBytes bytesOf numberAt
+    unfolding samplesField sharedBytes extensionBytes bytesOf numberAt
     ima-back t = rw (bytes-ima f n t) (said-format f (extensionBytes 2 f) h (simp tests (bytes-say 2 (f .samples) (h .samples))))
 
     microsoft-back : (f .tag ≡ 17 → ⊥) → f .tag ≡ 2 → formatOf (formatBytes f) ≡ f
-    unfolding samplesIn sharedBytes extensionBytes bytesOf numberAt
+    unfolding samplesField sharedBytes extensionBytes bytesOf numberAt
     microsoft-back m t =
         rw (bytes-microsoft f n m t)
         (said-format f (extensionBytes 32 f ++ coefficientBytes) h (simp tests (bytes-say 2 (f .samples) (h .samples))))

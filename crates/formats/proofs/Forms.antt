@@ -13,7 +13,7 @@ use borrow.Author.Tests.{not-true, not-false}
 use Rattle.little.specs.Numbers.{numberAt}
 use Rattle.little.proofs.Tests.{tests}
 use Rattle.formats.specs.declared.Format.{Format}
-use Rattle.formats.specs.Format.{samplesIn, formatOf, extended, average, pairsForm, formatForm}
+use Rattle.formats.specs.Format.{samplesField, formatOf, extended, average, pairsForm, formatForm}
 
 -- a product fits where the product of what bounds its factors does
 pub product-fits : {w : Width} {a b m n : ℕ} → a < m → b < n → T (leb (m * n) (2 ^ bits w)) → Fits w (a * b)
@@ -26,16 +26,16 @@ product-fits {w} {a} {m = m} {n = n} g h t =
 
 -- ---- what it says
 module _ (s : List ℕ) {tag : ℕ} where
-  pub samples-pcm : tag ≡ 1 → 1 ≡ samplesIn s tag
-  unfolding samplesIn
+  pub samples-pcm : tag ≡ 1 → 1 ≡ samplesField s tag
+  unfolding samplesField
   samples-pcm h = simp tests
 
-  pub samples-stored : {n : ℕ} → (tag ≡ 1 → ⊥) → n ≡ numberAt 2 s 18 → n ≡ samplesIn s tag
-  unfolding samplesIn
+  pub samples-stored : {n : ℕ} → (tag ≡ 1 → ⊥) → n ≡ numberAt 2 s 18 → n ≡ samplesField s tag
+  unfolding samplesField
   samples-stored h e = simp (tests, e)
 
   pub format-made : {channels rate bits align samples : ℕ} → tag ≡ numberAt 2 s 0 → channels ≡ numberAt 2 s 2 → rate ≡ numberAt 4 s 4
-      → bits ≡ numberAt 2 s 14 → align ≡ numberAt 2 s 12 → samples ≡ samplesIn s tag
+      → bits ≡ numberAt 2 s 14 → align ≡ numberAt 2 s 12 → samples ≡ samplesField s tag
       → _≡_ {A = Format} (record { tag = tag; channels = channels; rate = rate; bits = bits; align = align; samples = samples }) (formatOf s)
   unfolding formatOf
   format-made t c r b a n = simp (n, t, c, r, b, a)

@@ -17,8 +17,8 @@ abbrev pub byTag : {A : Type 0} → ℕ → A → A → A → A → A
 byTag tag pcm ima microsoft other = cond (eqb tag 1) pcm (cond (eqb tag 17) ima (cond (eqb tag 2) microsoft other))
 
 -- samples per block: a stored field, 1 for PCM
-unfoldable pub samplesIn : List ℕ → ℕ → ℕ
-samplesIn s tag = cond (eqb tag 1) 1 (numberAt 2 s 18)
+unfoldable pub samplesField : List ℕ → ℕ → ℕ
+samplesField s tag = cond (eqb tag 1) 1 (numberAt 2 s 18)
 
 -- in a `fmt ` stand tag, channels, rate, average, align and bits, then extension size and samples per block
 unfoldable pub formatOf : List ℕ → Format
@@ -29,7 +29,7 @@ formatOf s =
       rate = numberAt 4 s 4;
       align = numberAt 2 s 12;
       bits = numberAt 2 s 14;
-      samples = samplesIn s (numberAt 2 s 0);
+      samples = samplesField s (numberAt 2 s 0);
     }
 
 -- ---- its form: what the bytes must hold besides

@@ -15,7 +15,7 @@ ghost use lib.ListN.{length, getD};
 ghost use Rattle.little.specs.Numbers.{bytesOf};
 ghost use Rattle.little.specs.Writing.{Put};
 ghost use Rattle.samples.specs.Sound.{sampleBytes};
-ghost use Rattle.formats.specs.Format.{formatOf, samplesIn, extended, pairAt, pairsForm, average, formatForm};
+ghost use Rattle.formats.specs.Format.{formatOf, samplesField, extended, pairAt, pairsForm, average, formatForm};
 ghost use Rattle.formats.specs.Bytes.{averageOf, sharedBytes, extensionBytes, pairsBytes, coefficientBytes, formatBytes, factBytes};
 ghost use Rattle.formats.specs.Format.{pairs, shared, pcmRule, blocked, imaRule, microsoftRule, formatRule};
 ghost use Rattle.formats.specs.Frames.{wholeBlocks, framesOf, factForm, needsFact, blocksIn, countFits, framesRule};
@@ -49,7 +49,7 @@ pub struct Format {
 
 // The samples of a block, as a `fmt ` stores them.
 fn samples_in(bytes: &[u8], tag: u16) -> u16
-    ensures { λ r. ⌜ r ≡ samplesIn (now (bytes .entry)) tag ⌝ }
+    ensures answer { λ r. ⌜ r ≡ samplesField (now (bytes .entry)) tag ⌝ }
 {
     if tag == PCM {
         return 1;
@@ -59,7 +59,7 @@ fn samples_in(bytes: &[u8], tag: u16) -> u16
 
 // What a `fmt ` says.
 pub fn format_of(bytes: &[u8]) -> Format
-    ensures { λ r. ⌜ r ≡ formatOf (now (bytes .entry)) ⌝ }
+    ensures answer { λ r. ⌜ r ≡ formatOf (now (bytes .entry)) ⌝ }
 {
     let tag = little::u16_or_zero(bytes, 0);
     Format {
@@ -74,7 +74,7 @@ pub fn format_of(bytes: &[u8]) -> Format
 
 // Whether a `fmt ` is of some size, and has an extension of some size within it.
 fn has_extension(bytes: &[u8], size: usize, extension: usize) -> bool
-    ensures { λ r. ⌜ r ≡ extended size extension (now (bytes .entry)) ⌝ }
+    ensures answer { λ r. ⌜ r ≡ extended size extension (now (bytes .entry)) ⌝ }
 {
     if bytes.len() < size {
         return false;
@@ -89,7 +89,7 @@ fn has_extension(bytes: &[u8], size: usize, extension: usize) -> bool
 // Whether a pair stands at a place.
 fn has_pair(bytes: &[u8], at: usize, pair: [i16; 2]) -> bool
     requires { ⌜ at ≤ 65536 ⌝ }
-    ensures { λ r. ⌜ r ≡ pairAt (now (bytes .entry)) at pair ⌝ }
+    ensures answer { λ r. ⌜ r ≡ pairAt (now (bytes .entry)) at pair ⌝ }
 {
     let first = little::u16_or_zero(bytes, at);
     if first != samples::to_bits(pair[0]) {
@@ -101,7 +101,7 @@ fn has_pair(bytes: &[u8], at: usize, pair: [i16; 2]) -> bool
 
 // Whether the seven pairs follow a pair count of 7.
 fn has_pairs(bytes: &[u8]) -> bool
-    ensures { λ r. ⌜ r ≡ pairsForm (now (bytes .entry)) ⌝ }
+    ensures answer { λ r. ⌜ r ≡ pairsForm (now (bytes .entry)) ⌝ }
 {
     let count = little::u16_or_zero(bytes, 20);
     if count != 7 {
@@ -122,7 +122,7 @@ fn has_pairs(bytes: &[u8]) -> bool
 
 // Whether the average is rate x align.
 fn has_average(bytes: &[u8]) -> bool
-    ensures { λ r. ⌜ r ≡ average (now (bytes .entry)) ⌝ }
+    ensures answer { λ r. ⌜ r ≡ average (now (bytes .entry)) ⌝ }
 {
     let rate = little::u32_or_zero(bytes, 4) as u64;
     let align = little::u16_or_zero(bytes, 12) as u64;
@@ -132,7 +132,7 @@ fn has_average(bytes: &[u8]) -> bool
 
 // Whether a `fmt ` has the form that its tag asks for.
 pub fn format_form(bytes: &[u8]) -> bool
-    ensures { λ r. ⌜ r ≡ formatForm (now (bytes .entry)) ⌝ }
+    ensures answer { λ r. ⌜ r ≡ formatForm (now (bytes .entry)) ⌝ }
 {
     if bytes.len() < 16 {
         return false;
@@ -156,7 +156,7 @@ pub fn format_form(bytes: &[u8]) -> bool
 
 // Whether the channels and the rate are ones that are taken.
 fn shared_rule(format: Format) -> bool
-    ensures { λ r. ⌜ r ≡ shared format ⌝ }
+    ensures answer { λ r. ⌜ r ≡ shared format ⌝ }
 {
     if format.channels < 1 {
         return false;
@@ -172,7 +172,7 @@ fn shared_rule(format: Format) -> bool
 
 // Whether PCM sound may have so many bits.
 fn pcm_bits(bits: u16) -> bool
-    ensures { λ r. ⌜ r ≡ (eqb bits 8 || eqb bits 16) ⌝ }
+    ensures answer { λ r. ⌜ r ≡ (eqb bits 8 || eqb bits 16) ⌝ }
 {
     if bits == 8 {
         return true;
@@ -182,7 +182,7 @@ fn pcm_bits(bits: u16) -> bool
 
 // Whether PCM sound has 8 or 16 bits, and frames of that size.
 fn pcm_rule(format: Format) -> bool
-    ensures { λ r. ⌜ r ≡ pcmRule format ⌝ }
+    ensures answer { λ r. ⌜ r ≡ pcmRule format ⌝ }
 {
     let taken = pcm_bits(format.bits);
     if !taken {
@@ -197,7 +197,7 @@ fn pcm_rule(format: Format) -> bool
 
 // Whether ADPCM sound has 4 bits, and blocks of a size that is taken.
 fn blocked_rule(format: Format) -> bool
-    ensures { λ r. ⌜ r ≡ blocked format ⌝ }
+    ensures answer { λ r. ⌜ r ≡ blocked format ⌝ }
 {
     if format.bits != 4 {
         return false;
@@ -212,7 +212,7 @@ fn blocked_rule(format: Format) -> bool
 // Whether IMA blocks hold whole words, and the samples that fill them.
 fn ima_rule(format: Format) -> bool
     requires { ⌜ 1 ≤ format .channels ⌝ }
-    ensures { λ r. ⌜ r ≡ imaRule format ⌝ }
+    ensures answer { λ r. ⌜ r ≡ imaRule format ⌝ }
 {
     let blocked = blocked_rule(format);
     if !blocked {
@@ -229,7 +229,7 @@ fn ima_rule(format: Format) -> bool
 // Whether Microsoft blocks hold the samples that fill them.
 fn microsoft_rule(format: Format) -> bool
     requires { ⌜ 1 ≤ format .channels ⌝ }
-    ensures { λ r. ⌜ r ≡ microsoftRule format ⌝ }
+    ensures answer { λ r. ⌜ r ≡ microsoftRule format ⌝ }
 {
     let blocked = blocked_rule(format);
     if !blocked {
@@ -242,7 +242,7 @@ fn microsoft_rule(format: Format) -> bool
 
 // Whether what a `fmt ` says is taken.
 pub fn format_rule(format: Format) -> bool
-    ensures { λ r. ⌜ r ≡ formatRule format ⌝ }
+    ensures answer { λ r. ⌜ r ≡ formatRule format ⌝ }
 {
     let shared = shared_rule(format);
     if !shared {
@@ -263,7 +263,7 @@ pub fn format_rule(format: Format) -> bool
 
 // How many whole blocks some bytes of sound are; none, where a block has no bytes.
 fn blocks_in(format: Format, sound: BytePlace) -> usize
-    ensures { λ r. ⌜ r ≡ blocksIn format sound ⌝ }
+    ensures answer { λ r. ⌜ r ≡ blocksIn format sound ⌝ }
 {
     let align = format.align as usize;
     if align < 1 {
@@ -274,7 +274,7 @@ fn blocks_in(format: Format, sound: BytePlace) -> usize
 
 // Whether sound data are whole frames or blocks.
 pub fn whole_blocks(format: Format, sound: BytePlace) -> bool
-    ensures { λ r. ⌜ r ≡ wholeBlocks format sound ⌝ }
+    ensures answer { λ r. ⌜ r ≡ wholeBlocks format sound ⌝ }
 {
     let align = format.align as usize;
     if align < 1 {
@@ -286,7 +286,7 @@ pub fn whole_blocks(format: Format, sound: BytePlace) -> bool
 // The frames of the sound: of PCM by its length, of ADPCM by the fact.
 pub fn frames_of(format: Format, sound: BytePlace, fact: &[u8]) -> Frames
     requires { ⌜ sound .0 < 4294967296 ⌝ }
-    ensures { λ r. ⌜ r ≡ framesOf format sound (now (fact .entry)) ⌝ }
+    ensures answer { λ r. ⌜ r ≡ framesOf format sound (now (fact .entry)) ⌝ }
 {
     if format.tag == PCM {
         let blocks = blocks_in(format, sound);
@@ -297,14 +297,14 @@ pub fn frames_of(format: Format, sound: BytePlace, fact: &[u8]) -> Frames
 
 // Whether a fact has room for its count.
 pub fn fact_form(fact: &[u8]) -> bool
-    ensures { λ r. ⌜ r ≡ factForm (now (fact .entry)) ⌝ }
+    ensures answer { λ r. ⌜ r ≡ factForm (now (fact .entry)) ⌝ }
 {
     4 <= fact.len()
 }
 
 // Whether sound of this format needs a fact.
 pub fn needs_fact(format: Format) -> bool
-    ensures { λ r. ⌜ r ≡ needsFact format ⌝ }
+    ensures answer { λ r. ⌜ r ≡ needsFact format ⌝ }
 {
     format.tag != PCM
 }
@@ -312,7 +312,7 @@ pub fn needs_fact(format: Format) -> bool
 // Whether a number of frames fills some blocks, the last one whole or in part. No product is made, as
 // it may pass 64 bits: the blocks that the frames fill are a quotient, rounded up.
 fn count_fits(blocks: usize, samples: u16, frames: u32) -> bool
-    ensures { λ r. ⌜ r ≡ countFits blocks samples frames ⌝ }
+    ensures answer { λ r. ⌜ r ≡ countFits blocks samples frames ⌝ }
 {
     if blocks == 0 {
         return frames == 0;
@@ -327,7 +327,7 @@ fn count_fits(blocks: usize, samples: u16, frames: u32) -> bool
 
 // Whether a number of frames is one that some bytes of sound can have.
 pub fn frames_rule(format: Format, sound: BytePlace, frames: Frames) -> bool
-    ensures { λ r. ⌜ r ≡ framesRule format sound frames ⌝ }
+    ensures answer { λ r. ⌜ r ≡ framesRule format sound frames ⌝ }
 {
     let blocks = blocks_in(format, sound);
     if format.tag == PCM {
@@ -340,7 +340,9 @@ pub fn frames_rule(format: Format, sound: BytePlace, frames: Frames) -> bool
 
 // The bytes that a `fmt ` takes.
 pub fn format_size(format: Format) -> usize
-    ensures { λ r. ⌜ (r ≡ length (formatBytes format)) × (r ≤ 50) × (r % 2 ≡ 0) ⌝ }
+    ensures answer { λ r. ⌜ r ≡ length (formatBytes format) ⌝ }
+    ensures bound { λ r. ⌜ r ≤ 50 ⌝ }
+    ensures even { λ r. ⌜ r % 2 ≡ 0 ⌝ }
 {
     let tag = format.tag;
     if tag == PCM {
@@ -359,7 +361,7 @@ pub fn format_size(format: Format) -> usize
 fn shared_by(bytes: u32, samples: u16) -> u32
     requires { ⌜ 1 ≤ samples ⌝ }
     requires { ⌜ bytes ≤ 192000 * 4096 ⌝ }
-    ensures { λ r. ⌜ r ≡ bytes / samples ⌝ }
+    ensures answer { λ r. ⌜ r ≡ bytes / samples ⌝ }
 {
     bytes / samples as u32
 }
@@ -367,7 +369,7 @@ fn shared_by(bytes: u32, samples: u16) -> u32
 // The bytes of a second: of ADPCM, rounded down.
 fn average_of(format: Format) -> u32
     requires { ⌜ formatRule format ≡ true ⌝ }
-    ensures { λ r. ⌜ r ≡ averageOf format ⌝ }
+    ensures answer { λ r. ⌜ r ≡ averageOf format ⌝ }
 {
     let bytes = format.rate * format.align as u32;
     if format.tag == PCM {
@@ -379,7 +381,7 @@ fn average_of(format: Format) -> u32
 // Puts tag, channels and rate.
 fn put_kind(out: &mut [u8], at: usize, format: Format)
     requires { ⌜ at + 8 ≤ length (now out) ⌝ }
-    ensures { λ _. ⌜ Put (now (out .entry)) at (bytesOf 2 (format .tag) ++ (bytesOf 2 (format .channels) ++ bytesOf 4 (format .rate))) (now (out .exit)) ⌝ }
+    ensures buffer { λ _. ⌜ Put (now (out .entry)) at (bytesOf 2 (format .tag) ++ (bytesOf 2 (format .channels) ++ bytesOf 4 (format .rate))) (now (out .exit)) ⌝ }
 {
     little::put_u16(out, at, format.tag);
     little::put_u16(out, at + 2, format.channels);
@@ -390,7 +392,7 @@ fn put_kind(out: &mut [u8], at: usize, format: Format)
 fn put_sizes(out: &mut [u8], at: usize, format: Format)
     requires { ⌜ formatRule format ≡ true ⌝ }
     requires { ⌜ at + 8 ≤ length (now out) ⌝ }
-    ensures { λ _. ⌜ Put (now (out .entry)) at (bytesOf 4 (averageOf format) ++ (bytesOf 2 (format .align) ++ bytesOf 2 (format .bits))) (now (out .exit)) ⌝ }
+    ensures buffer { λ _. ⌜ Put (now (out .entry)) at (bytesOf 4 (averageOf format) ++ (bytesOf 2 (format .align) ++ bytesOf 2 (format .bits))) (now (out .exit)) ⌝ }
 {
     let average = average_of(format);
     little::put_u32(out, at, average);
@@ -402,7 +404,7 @@ fn put_sizes(out: &mut [u8], at: usize, format: Format)
 fn put_shared(out: &mut [u8], at: usize, format: Format)
     requires { ⌜ formatRule format ≡ true ⌝ }
     requires { ⌜ at + 16 ≤ length (now out) ⌝ }
-    ensures { λ _. ⌜ Put (now (out .entry)) at (sharedBytes format) (now (out .exit)) ⌝ }
+    ensures buffer { λ _. ⌜ Put (now (out .entry)) at (sharedBytes format) (now (out .exit)) ⌝ }
 {
     put_kind(out, at, format);
     put_sizes(out, at + 8, format);
@@ -411,7 +413,7 @@ fn put_shared(out: &mut [u8], at: usize, format: Format)
 // Puts the size of an extension, and the samples of a block.
 fn put_extension(out: &mut [u8], at: usize, size: u16, format: Format)
     requires { ⌜ at + 4 ≤ length (now out) ⌝ }
-    ensures { λ _. ⌜ Put (now (out .entry)) at (extensionBytes size format) (now (out .exit)) ⌝ }
+    ensures buffer { λ _. ⌜ Put (now (out .entry)) at (extensionBytes size format) (now (out .exit)) ⌝ }
 {
     little::put_u16(out, at, size);
     little::put_u16(out, at + 2, format.samples);
@@ -420,7 +422,7 @@ fn put_extension(out: &mut [u8], at: usize, size: u16, format: Format)
 // Puts a pair.
 fn put_pair(out: &mut [u8], at: usize, pair: [i16; 2])
     requires { ⌜ at + 4 ≤ length (now out) ⌝ }
-    ensures { λ _. ⌜ Put (now (out .entry)) at (sampleBytes (getD pair 0 (pos 0)) ++ sampleBytes (getD pair 1 (pos 0))) (now (out .exit)) ⌝ }
+    ensures buffer { λ _. ⌜ Put (now (out .entry)) at (sampleBytes (getD pair 0 (pos 0)) ++ sampleBytes (getD pair 1 (pos 0))) (now (out .exit)) ⌝ }
 {
     samples::put_sample(out, at, pair[0]);
     samples::put_sample(out, at + 2, pair[1]);
@@ -429,7 +431,7 @@ fn put_pair(out: &mut [u8], at: usize, pair: [i16; 2])
 // Puts the seven pairs.
 fn put_pairs(out: &mut [u8], at: usize)
     requires { ⌜ at + 28 ≤ length (now out) ⌝ }
-    ensures { λ _. ⌜ Put (now (out .entry)) at (pairsBytes pairs) (now (out .exit)) ⌝ }
+    ensures buffer { λ _. ⌜ Put (now (out .entry)) at (pairsBytes pairs) (now (out .exit)) ⌝ }
 {
     let pairs = PAIRS;
     let mut i = 0;
@@ -443,7 +445,7 @@ fn put_pairs(out: &mut [u8], at: usize)
 // Puts the pair count and the seven pairs.
 fn put_coefficients(out: &mut [u8], at: usize)
     requires { ⌜ at + 30 ≤ length (now out) ⌝ }
-    ensures { λ _. ⌜ Put (now (out .entry)) at coefficientBytes (now (out .exit)) ⌝ }
+    ensures buffer { λ _. ⌜ Put (now (out .entry)) at coefficientBytes (now (out .exit)) ⌝ }
 {
     little::put_u16(out, at, 7);
     put_pairs(out, at + 2);
@@ -453,7 +455,7 @@ fn put_coefficients(out: &mut [u8], at: usize)
 pub fn put_format(out: &mut [u8], at: usize, format: Format)
     requires { ⌜ formatRule format ≡ true ⌝ }
     requires { ⌜ at + length (formatBytes format) ≤ length (now out) ⌝ }
-    ensures { λ _. ⌜ Put (now (out .entry)) at (formatBytes format) (now (out .exit)) ⌝ }
+    ensures buffer { λ _. ⌜ Put (now (out .entry)) at (formatBytes format) (now (out .exit)) ⌝ }
 {
     put_shared(out, at, format);
     let tag = format.tag;
@@ -471,7 +473,7 @@ pub fn put_format(out: &mut [u8], at: usize, format: Format)
 // Puts a `fact`.
 pub fn put_fact(out: &mut [u8], at: usize, frames: Frames)
     requires { ⌜ at + 4 ≤ length (now out) ⌝ }
-    ensures { λ _. ⌜ Put (now (out .entry)) at (factBytes frames) (now (out .exit)) ⌝ }
+    ensures buffer { λ _. ⌜ Put (now (out .entry)) at (factBytes frames) (now (out .exit)) ⌝ }
 {
     little::put_u32(out, at, frames.0);
 }

@@ -8,7 +8,8 @@ ghost use Rattle.lists.specs.Every.{allBelow};
 
 // The first place of a number among others; where it is none of them, how many they are.
 pub fn find(numbers: &[u32], number: u32) -> usize
-    ensures { λ r. ⌜ (r ≡ indexIn number (now (numbers .entry))) × (r ≤ length (now (numbers .entry))) ⌝ }
+    ensures answer { λ r. ⌜ r ≡ indexIn number (now (numbers .entry)) ⌝ }
+    ensures bound { λ r. ⌜ r ≤ length (now (numbers .entry)) ⌝ }
 {
     let mut i = 0;
     while i < numbers.len() {
@@ -22,7 +23,7 @@ pub fn find(numbers: &[u32], number: u32) -> usize
 
 // Whether no number stands there twice.
 pub fn all_differ(numbers: &[u32]) -> bool
-    ensures { λ r. ⌜ r ≡ distinct (now (numbers .entry)) ⌝ }
+    ensures answer { λ r. ⌜ r ≡ distinct (now (numbers .entry)) ⌝ }
 {
     let mut i = 0;
     while i + 1 < numbers.len() {
@@ -39,7 +40,7 @@ pub fn all_differ(numbers: &[u32]) -> bool
 
 // Whether every number is below a limit.
 pub fn all_below(numbers: &[u32], limit: u32) -> bool
-    ensures { λ r. ⌜ r ≡ allBelow limit (now (numbers .entry)) ⌝ }
+    ensures answer { λ r. ⌜ r ≡ allBelow limit (now (numbers .entry)) ⌝ }
 {
     let mut i = 0;
     while i < numbers.len() {

@@ -12,7 +12,8 @@ ghost use Rattle.little.specs.Same.{sameBytes};
 
 // A byte as a wider number, with the bound that sums of bytes want.
 fn wide(byte: u8) -> u32
-    ensures { λ r. ⌜ (r ≡ byte) × (r < 256) ⌝ }
+    ensures answer { λ r. ⌜ r ≡ byte ⌝ }
+    ensures bound { λ r. ⌜ r < 256 ⌝ }
 {
     byte as u32
 }
@@ -20,7 +21,7 @@ fn wide(byte: u8) -> u32
 // The 16-bit number at a place.
 pub fn u16_at(bytes: &[u8], at: usize) -> u16
     requires { ⌜ at + 2 ≤ length (now bytes) ⌝ }
-    ensures { λ r. ⌜ r ≡ numberAt 2 (now (bytes .entry)) at ⌝ }
+    ensures answer { λ r. ⌜ r ≡ numberAt 2 (now (bytes .entry)) at ⌝ }
 {
     (wide(bytes[at]) + 256 * wide(bytes[at + 1])) as u16
 }
@@ -28,7 +29,7 @@ pub fn u16_at(bytes: &[u8], at: usize) -> u16
 // The 32-bit number at a place.
 pub fn u32_at(bytes: &[u8], at: usize) -> u32
     requires { ⌜ at + 4 ≤ length (now bytes) ⌝ }
-    ensures { λ r. ⌜ r ≡ numberAt 4 (now (bytes .entry)) at ⌝ }
+    ensures answer { λ r. ⌜ r ≡ numberAt 4 (now (bytes .entry)) at ⌝ }
 {
     wide(bytes[at])
         + 256 * wide(bytes[at + 1])
@@ -38,7 +39,8 @@ pub fn u32_at(bytes: &[u8], at: usize) -> u32
 
 // The byte at a place, 0 past the end.
 fn byte_or_zero(bytes: &[u8], at: usize) -> u32
-    ensures { λ r. ⌜ (r ≡ getD (now (bytes .entry)) at 0) × (r < 256) ⌝ }
+    ensures answer { λ r. ⌜ r ≡ getD (now (bytes .entry)) at 0 ⌝ }
+    ensures bound { λ r. ⌜ r < 256 ⌝ }
 {
     if at < bytes.len() {
         return wide(bytes[at]);
@@ -48,7 +50,7 @@ fn byte_or_zero(bytes: &[u8], at: usize) -> u32
 
 // The 16-bit number at any place.
 pub fn u16_or_zero(bytes: &[u8], at: usize) -> u16
-    ensures { λ r. ⌜ r ≡ numberAt 2 (now (bytes .entry)) at ⌝ }
+    ensures answer { λ r. ⌜ r ≡ numberAt 2 (now (bytes .entry)) at ⌝ }
 {
     if bytes.len() <= at {
         return 0;
@@ -58,7 +60,7 @@ pub fn u16_or_zero(bytes: &[u8], at: usize) -> u16
 
 // The 32-bit number at any place.
 pub fn u32_or_zero(bytes: &[u8], at: usize) -> u32
-    ensures { λ r. ⌜ r ≡ numberAt 4 (now (bytes .entry)) at ⌝ }
+    ensures answer { λ r. ⌜ r ≡ numberAt 4 (now (bytes .entry)) at ⌝ }
 {
     if bytes.len() <= at {
         return 0;
@@ -72,7 +74,7 @@ pub fn u32_or_zero(bytes: &[u8], at: usize) -> u32
 // Puts a 16-bit number at a place.
 pub fn put_u16(out: &mut [u8], at: usize, value: u16)
     requires { ⌜ at + 2 ≤ length (now out) ⌝ }
-    ensures { λ _. ⌜ Put (now (out .entry)) at (bytesOf 2 value) (now (out .exit)) ⌝ }
+    ensures buffer { λ _. ⌜ Put (now (out .entry)) at (bytesOf 2 value) (now (out .exit)) ⌝ }
 {
     out[at] = (value % 256) as u8;
     out[at + 1] = (value / 256 % 256) as u8;
@@ -81,7 +83,7 @@ pub fn put_u16(out: &mut [u8], at: usize, value: u16)
 // Puts a 32-bit number at a place.
 pub fn put_u32(out: &mut [u8], at: usize, value: u32)
     requires { ⌜ at + 4 ≤ length (now out) ⌝ }
-    ensures { λ _. ⌜ Put (now (out .entry)) at (bytesOf 4 value) (now (out .exit)) ⌝ }
+    ensures buffer { λ _. ⌜ Put (now (out .entry)) at (bytesOf 4 value) (now (out .exit)) ⌝ }
 {
     out[at] = (value % 256) as u8;
     out[at + 1] = (value / 256 % 256) as u8;
@@ -92,7 +94,7 @@ pub fn put_u32(out: &mut [u8], at: usize, value: u32)
 // Copies a run of bytes to a place, byte by byte.
 fn put_few(out: &mut [u8], at: usize, bytes: &[u8])
     requires { ⌜ at + length (now bytes) ≤ length (now out) ⌝ }
-    ensures { λ _. ⌜ Put (now (out .entry)) at (now (bytes .entry)) (now (out .exit)) ⌝ }
+    ensures buffer { λ _. ⌜ Put (now (out .entry)) at (now (bytes .entry)) (now (out .exit)) ⌝ }
 {
     let mut i = 0;
     while i < bytes.len() {
@@ -106,7 +108,7 @@ fn put_few(out: &mut [u8], at: usize, bytes: &[u8])
 fn put_sixteen(out: &mut [u8], at: usize, bytes: &[u8], i: usize)
     requires { ⌜ at + 16 ≤ length (now out) ⌝ }
     requires { ⌜ i + 16 ≤ length (now bytes) ⌝ }
-    ensures { λ _. ⌜ Put (now (out .entry)) at (take 16 (drop i (now (bytes .entry)))) (now (out .exit)) ⌝ }
+    ensures buffer { λ _. ⌜ Put (now (out .entry)) at (take 16 (drop i (now (bytes .entry)))) (now (out .exit)) ⌝ }
 {
     let first = u32_at(bytes, i);
     let second = u32_at(bytes, i + 4);
@@ -122,7 +124,7 @@ fn put_sixteen(out: &mut [u8], at: usize, bytes: &[u8], i: usize)
 fn put_many(out: &mut [u8], at: usize, bytes: &[u8], i: usize)
     requires { ⌜ at + 64 ≤ length (now out) ⌝ }
     requires { ⌜ i + 64 ≤ length (now bytes) ⌝ }
-    ensures { λ _. ⌜ Put (now (out .entry)) at (take 64 (drop i (now (bytes .entry)))) (now (out .exit)) ⌝ }
+    ensures buffer { λ _. ⌜ Put (now (out .entry)) at (take 64 (drop i (now (bytes .entry)))) (now (out .exit)) ⌝ }
 {
     put_sixteen(out, at, bytes, i);
     put_sixteen(out, at + 16, bytes, i + 16);
@@ -135,7 +137,7 @@ fn put_many(out: &mut [u8], at: usize, bytes: &[u8], i: usize)
 fn put_turns(out: &mut [u8], at: usize, bytes: &[u8])
     requires { ⌜ at + length (now bytes) ≤ length (now out) ⌝ }
     requires { ⌜ 64 ≤ length (now bytes) ⌝ }
-    ensures { λ _. ⌜ Put (now (out .entry)) at (now (bytes .entry)) (now (out .exit)) ⌝ }
+    ensures buffer { λ _. ⌜ Put (now (out .entry)) at (now (bytes .entry)) (now (out .exit)) ⌝ }
 {
     let n = bytes.len();
     let mut i = 0;
@@ -149,7 +151,7 @@ fn put_turns(out: &mut [u8], at: usize, bytes: &[u8])
 
 // How many bytes there are from a place to a multiple of sixteen behind it.
 fn to_sixteen(at: usize) -> usize
-    ensures { λ r. ⌜ r ≤ 16 ⌝ }
+    ensures bound { λ r. ⌜ r ≤ 16 ⌝ }
 {
     16 - at % 16
 }
@@ -158,7 +160,7 @@ fn to_sixteen(at: usize) -> usize
 // multiple of sixteen, where a machine stores fastest.
 pub fn put_bytes(out: &mut [u8], at: usize, bytes: &[u8])
     requires { ⌜ at + length (now bytes) ≤ length (now out) ⌝ }
-    ensures { λ _. ⌜ Put (now (out .entry)) at (now (bytes .entry)) (now (out .exit)) ⌝ }
+    ensures buffer { λ _. ⌜ Put (now (out .entry)) at (now (bytes .entry)) (now (out .exit)) ⌝ }
 {
     let n = bytes.len();
     if n < 80 {
@@ -176,7 +178,7 @@ pub fn put_bytes(out: &mut [u8], at: usize, bytes: &[u8])
 // The 64-bit number at a place.
 fn u64_at(bytes: &[u8], at: usize) -> u64
     requires { ⌜ at + 8 ≤ length (now bytes) ⌝ }
-    ensures { λ r. ⌜ r ≡ numberAt 8 (now (bytes .entry)) at ⌝ }
+    ensures answer { λ r. ⌜ r ≡ numberAt 8 (now (bytes .entry)) at ⌝ }
 {
     let low = u32_at(bytes, at) as u64;
     let high = u32_at(bytes, at + 4) as u64;
@@ -187,7 +189,7 @@ fn u64_at(bytes: &[u8], at: usize) -> u64
 fn same_sixteen(a: &[u8], b: &[u8], i: usize) -> bool
     requires { ⌜ i + 16 ≤ length (now a) ⌝ }
     requires { ⌜ i + 16 ≤ length (now b) ⌝ }
-    ensures { λ r. ⌜ r ≡ sameBytes (take 16 (drop i (now (a .entry)))) (take 16 (drop i (now (b .entry)))) ⌝ }
+    ensures answer { λ r. ⌜ r ≡ sameBytes (take 16 (drop i (now (a .entry)))) (take 16 (drop i (now (b .entry)))) ⌝ }
 {
     let first = u64_at(a, i);
     let second = u64_at(a, i + 8);
@@ -200,7 +202,7 @@ fn same_sixteen(a: &[u8], b: &[u8], i: usize) -> bool
 // Whether two runs of bytes are the same from a place on, byte by byte.
 fn same_few(a: &[u8], b: &[u8], from: usize) -> bool
     requires { ⌜ (length (now a) ≡ length (now b)) × (from ≤ length (now a)) ⌝ }
-    ensures { λ r. ⌜ r ≡ sameBytes (drop from (now (a .entry))) (drop from (now (b .entry))) ⌝ }
+    ensures answer { λ r. ⌜ r ≡ sameBytes (drop from (now (a .entry))) (drop from (now (b .entry))) ⌝ }
 {
     let mut at = from;
     while at < a.len() {
@@ -214,7 +216,7 @@ fn same_few(a: &[u8], b: &[u8], from: usize) -> bool
 
 // Whether two runs of bytes are the same, sixteen at a turn.
 pub fn same_bytes(a: &[u8], b: &[u8]) -> bool
-    ensures { λ r. ⌜ r ≡ sameBytes (now (a .entry)) (now (b .entry)) ⌝ }
+    ensures answer { λ r. ⌜ r ≡ sameBytes (now (a .entry)) (now (b .entry)) ⌝ }
 {
     let n = a.len();
     if n != b.len() {

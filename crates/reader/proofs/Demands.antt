@@ -15,20 +15,20 @@ use Rattle.riff.specs.declared.Walked.the-variants.{Whole, Stopped}
 use Rattle.units.specs.Refusals.{numberOf, verdictNumber}
 use Rattle.units.proofs.Laws.{demand-row}
 use Rattle.riff.specs.Chunks.{badLength, noWave, badSize, headVerdict, isThere}
-use Rattle.riff.specs.Walk.{partOf, walkOf, opened, directoryOf}
+use Rattle.riff.specs.Walk.{partOf, walkOf, afterHead, directoryOf}
 use Rattle.tables.specs.Cues.{noCue}
 use Rattle.tables.specs.Plays.{noPlay}
 use Rattle.tables.proofs.Entries.{all-zero, cues-zero, plays-zero}
 use Rattle.rules.specs.declared.Record.{Record}
 use Rattle.rules.specs.Rules.{recordOf, inOrder, verdictOf, blank}
-use Rattle.reader.specs.Content.{Content, refused, holds, taken, soundPart, cuePart, playlistPart, recordAt, verdictAt, contentAt, contentIn, contentOf, readingOf, soundOf, reading, soundIn, spotBy, soundSpot}
-use Rattle.reader.specs.Demands.{chunkNumber, Numbered, Tied, Placed, Refusing, ZeroPast}
+use Rattle.reader.specs.Content.{Content, refused, holds, contentBy, soundPart, cuePart, playlistPart, recordAt, verdictAt, contentAt, contentIn, contentOf, readingOf, soundOf, reading, soundIn, spotBy, soundSpot}
+use Rattle.reader.specs.Demands.{chunkNumber, ReadNumbered, Tied, Placed, Refusing, ZeroPast}
 
 pub tied : (s : List ℕ) → Tied s
 unfolding reading soundIn
 tied s = by (contentOf s)
   where
-    by : (c : Content) → taken (readingOf c .verdict) (readingOf c .made) (soundOf c) ≡ c
+    by : (c : Content) → contentBy (readingOf c .verdict) (readingOf c .made) (soundOf c) ≡ c
     by (refused r) = refl
     by (holds m w) = refl
 
@@ -37,8 +37,8 @@ unfolding reading soundIn contentOf contentAt soundSpot
 placed s = by (directoryOf s)
   where
     at : (d : Directory) (b : Bool) (v : Verdict) (m : Record)
-        → partOf s (spotBy (readingOf (cond b (taken v m (soundPart s d)) (refused FormatOrDataMissing)) .verdict) (Whole d)) []
-        ≡ soundOf (cond b (taken v m (soundPart s d)) (refused FormatOrDataMissing))
+        → partOf s (spotBy (readingOf (cond b (contentBy v m (soundPart s d)) (refused FormatOrDataMissing)) .verdict) (Whole d)) []
+        ≡ soundOf (cond b (contentBy v m (soundPart s d)) (refused FormatOrDataMissing))
     at d true Accepted m = refl
     at d true (Refused r) m = refl
     at d false v m = refl
@@ -61,7 +61,7 @@ refusing s r e = let b = by (contentOf s) e in record { made = b .0; sound = b .
 
 -- ---- a file holds nothing, or the record and the sound of its directory
 module _ (P : Content → Type 0) (none : (r : Refusal) → P (refused r)) where
-  either : (v : Verdict) (m : Record) (w : List ℕ) → P (holds m w) → P (taken v m w)
+  either : (v : Verdict) (m : Record) (w : List ℕ) → P (holds m w) → P (contentBy v m w)
   either Accepted m w p = p
   either (Refused r) m w p = none r
 
@@ -89,7 +89,7 @@ zero-past s =
 
 -- ---- the number: each demand is a row of the table
 taken-row : (a b : Bool) (v : Verdict) (m : Record) (w : List ℕ)
-    → verdictNumber (readingOf (cond (a && b) (taken v m w) (refused FormatOrDataMissing)) .verdict) ≡ cond (not a || not b) 8 (verdictNumber v)
+    → verdictNumber (readingOf (cond (a && b) (contentBy v m w) (refused FormatOrDataMissing)) .verdict) ≡ cond (not a || not b) 8 (verdictNumber v)
 taken-row true true Accepted m w = refl
 taken-row true true (Refused r) m w = refl
 taken-row true false v m w = refl
@@ -102,12 +102,12 @@ chunk-rows s (Whole d) =
     taken-row (isThere (d .format)) (isThere (d .sound)) (verdictAt s d) (recordAt s d) (soundPart s d) ∙ simp demand-row
 
 head-row : (s : List ℕ) (b : Bool) (r : Refusal) (v : Verdict) (w : Walked)
-    → verdictNumber (readingOf (contentIn s (opened (cond b (Refused r) v) w)) .verdict)
-    ≡ cond b (numberOf r) (verdictNumber (readingOf (contentIn s (opened v w)) .verdict))
+    → verdictNumber (readingOf (contentIn s (afterHead (cond b (Refused r) v) w)) .verdict)
+    ≡ cond b (numberOf r) (verdictNumber (readingOf (contentIn s (afterHead v w)) .verdict))
 head-row s true r v w = refl
 head-row s false r v w = refl
 
-pub numbered : (s : List ℕ) → Numbered s
+pub numbered : (s : List ℕ) → ReadNumbered s
 unfolding reading contentOf directoryOf headVerdict
 numbered s =
     head-row s (badLength s) LengthOutOfRange _ (walkOf s)

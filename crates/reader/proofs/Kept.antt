@@ -1,4 +1,4 @@
--- What a file that is taken keeps, by the verdict on its chunks; and what a file holds, in the words of callers. Assumes nothing.
+-- What a file that is contentBy keeps, by the verdict on its chunks; and what a file holds, in the words of callers. Assumes nothing.
 use mathlib.Core.Path.{_≡_, refl, sym, ap, _∙_, subst}
 use mathlib.Core.Bool.{Bool, true, false, cond, _&&_}
 use mathlib.Core.List.{List}
@@ -20,16 +20,16 @@ use Rattle.tables.specs.Cues.{cuesForm, cuesRule}
 use Rattle.tables.specs.Plays.{playsForm, playsRule}
 use Rattle.rules.specs.declared.Record.{Record}
 use Rattle.rules.specs.declared.Reading.{Reading}
-use Rattle.rules.specs.Rules.{fine, formatFine, factFine, cuesFine, playsFine, verdictOf, Writable}
+use Rattle.rules.specs.Rules.{valid, formatValid, factValid, cuesValid, playsValid, verdictOf, Writable}
 use Rattle.rules.proofs.Taken.{in-order}
-use Rattle.reader.specs.Content.{Content, refused, holds, taken, formatPart, soundPart, soundSize, factPart, cuePart, playlistPart, recordAt, verdictAt, contentAt, contentIn, contentOf, reading, soundIn}
+use Rattle.reader.specs.Content.{Content, refused, holds, contentBy, formatPart, soundPart, soundSize, factPart, cuePart, playlistPart, recordAt, verdictAt, contentAt, contentIn, contentOf, reading, soundIn}
 use Rattle.reader.proofs.Demands.{tied}
 
-both : (a b : Bool) → fine a b ≡ true → (a ≡ true) × (b ≡ true)
-unfolding fine
+both : (a b : Bool) → valid a b ≡ true → (a ≡ true) × (b ≡ true)
+unfolding valid
 both a b e = and-both a b e
 
--- ---- a file that is taken: where its chunks stand, and what they say
+-- ---- a file that is contentBy: where its chunks stand, and what they say
 pub record Held (s : List ℕ) (m : Record) (w : List ℕ) : Type 0 where
   pub places : Directory
   pub walked : directoryOf s ≡ Whole places
@@ -48,7 +48,7 @@ unfolding contentOf contentAt
 held-in s = by (directoryOf s) refl
   where
     at : (d : Directory) (a b : Bool) (v : Verdict) → directoryOf s ≡ Whole d → isThere (d .format) ≡ a → isThere (d .sound) ≡ b
-        → verdictAt s d ≡ v → HeldIn s (cond (a && b) (taken v (recordAt s d) (soundPart s d)) (refused FormatOrDataMissing))
+        → verdictAt s d ≡ v → HeldIn s (cond (a && b) (contentBy v (recordAt s d) (soundPart s d)) (refused FormatOrDataMissing))
     at d true true Accepted e f g h =
         record { places = d; walked = e; formatThere = f; soundThere = g; verdict = h; made = refl; sound = refl }
     at d true true (Refused r) e f g h = tt
@@ -75,8 +75,8 @@ unfolding verdictOf
 formed s d e =
     let m : Record = recordAt s d in
     let k =
-    in-order (formatFine (formatPart s d) (m .format)) (wholeBlocks (m .format) (soundSize s d)) (factFine (factPart s d) (m .format) (soundSize s d) (m .frames))
-    (cuesFine (cuePart s d) (m .cues) (m .frames)) (playsFine (playlistPart s d) (m .playlist) (m .cues) (m .frames)) e in
+    in-order (formatValid (formatPart s d) (m .format)) (wholeBlocks (m .format) (soundSize s d)) (factValid (factPart s d) (m .format) (soundSize s d) (m .frames))
+    (cuesValid (cuePart s d) (m .cues) (m .frames)) (playsValid (playlistPart s d) (m .playlist) (m .cues) (m .frames)) e in
     let f = both (formatForm (formatPart s d)) (formatRule (m .format)) (k .format) in
     let g = both (factForm (factPart s d)) (framesRule (m .format) (soundSize s d) (m .frames)) (k .fact) in
     let c = both (cuesForm (cuePart s d)) (cuesRule (m .cues) (m .frames)) (k .cues) in
@@ -91,10 +91,10 @@ formed s d e =
 
 -- ---- in the words of callers
 module _ (s : List ℕ) {x : Reading} (e : x ≡ reading s) where
-  told : {v : Verdict} → x .verdict ≡ v → taken v (x .made) (soundIn s) ≡ contentOf s
+  told : {v : Verdict} → x .verdict ≡ v → contentBy v (x .made) (soundIn s) ≡ contentOf s
   told {v} h =
-      ap (λ (u : Verdict). taken u (x .made) (soundIn s)) (sym h)
-      ∙ ap (λ (y : Reading). taken (y .verdict) (y .made) (soundIn s)) e
+      ap (λ (u : Verdict). contentBy u (x .made) (soundIn s)) (sym h)
+      ∙ ap (λ (y : Reading). contentBy (y .verdict) (y .made) (soundIn s)) e
       ∙ tied s
 
   pub content-refused : {r : Refusal} → x .verdict ≡ Refused r → refused r ≡ contentOf s

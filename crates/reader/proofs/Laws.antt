@@ -23,8 +23,8 @@ use Rattle.formats.specs.Format.{formatOf}
 use Rattle.formats.specs.Frames.{needsFact}
 use Rattle.rules.specs.declared.Record.{Record}
 use Rattle.rules.specs.declared.Reading.{Reading}
-use Rattle.rules.specs.Rules.{turnedAway, answer, judged}
-use Rattle.reader.specs.Content.{Content, taken, zeros, formatPart, soundPart, cuePart, playlistPart, verdictAt, recordAt, contentAt, contentIn, contentOf, readingOf, reading, spotBy, soundSpot}
+use Rattle.rules.specs.Rules.{turnedAway, readingBy, judged}
+use Rattle.reader.specs.Content.{Content, contentBy, zeros, formatPart, soundPart, cuePart, playlistPart, verdictAt, recordAt, contentAt, contentIn, contentOf, readingOf, reading, spotBy, soundSpot}
 
 -- ---- parts
 module _ (s : List ℕ) (spot : Spot) (f : Format) (needed needless : List ℕ) {a : Bool} (e : a ≡ needsFact f) {r : List ℕ} where
@@ -37,7 +37,7 @@ module _ (s : List ℕ) (spot : Spot) (f : Format) (needed needless : List ℕ) 
 pub ruleset facts = (fact-needed, fact-needless)
 
 -- ---- a directory's reading
-as-judged : (v : Verdict) (m : Record) (w : List ℕ) → answer v m ≡ readingOf (taken v m w)
+as-judged : (v : Verdict) (m : Record) (w : List ℕ) → readingBy v m ≡ readingOf (contentBy v m w)
 as-judged Accepted m w = refl
 as-judged (Refused r) m w = refl
 
@@ -51,7 +51,7 @@ module _ (s : List ℕ) (d : Directory) {a : Bool} (e : a ≡ isThere (d .format
     unfolding contentAt
     read-no-sound u g = simp (sym e ∙ not-false a t, sym f ∙ not-true b u) g
 
-    pub read-both : {x : Reading} → not b ≡ false → x ≡ answer (verdictAt s d) (recordAt s d) → x ≡ readingOf (contentAt s d)
+    pub read-both : {x : Reading} → not b ≡ false → x ≡ readingBy (verdictAt s d) (recordAt s d) → x ≡ readingOf (contentAt s d)
     unfolding contentAt
     read-both u g = simp (sym e ∙ not-false a t, sym f ∙ not-false b u) (g ∙ as-judged (verdictAt s d) (recordAt s d) (soundPart s d))
 
@@ -61,7 +61,7 @@ pub ruleset chunks = (read-no-format, read-no-sound, read-both)
 pub read-judged : (s : List ℕ) (d : Directory) {fmt w fact cue plst : List ℕ} {g : Format} {x : Reading}
     → fmt ≡ formatPart s d → w ≡ soundPart s d → g ≡ formatOf fmt → fact ≡ partOf s (d .fact) (cond (needsFact g) [] zeros)
     → cue ≡ cuePart s d → plst ≡ playlistPart s d → x ≡ judged fmt (record { 0 = length w }) fact cue plst
-    → x ≡ answer (verdictAt s d) (recordAt s d)
+    → x ≡ readingBy (verdictAt s d) (recordAt s d)
 unfolding judged
 read-judged s d h i j k l m n = n ∙ simp (h, i, j, k, l, m)
 
@@ -99,7 +99,7 @@ module _ (s : List ℕ) {w : Walked} (e : w ≡ directoryOf s) where
   unfolding reading
   spot-whole f g = g ∙ spot-by (ap (λ (c : Content). readingOf c .verdict) (content-by f)) f
 
--- a directory's sound stands where it says, if its chunks are taken
+-- a directory's sound stands where it says, if its chunks are contentBy
 module _ (d : Directory) {x y : Reading} (e : x ≡ y) where
   pub spot-refused : {r : Refusal} → x .verdict ≡ Refused r → Missing ≡ spotBy (y .verdict) (Whole d)
   spot-refused h = ap (λ (v : Verdict). spotBy v (Whole d)) (sym h ∙ ap (λ (z : Reading). z .verdict) e)

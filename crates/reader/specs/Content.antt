@@ -15,6 +15,7 @@ use Rattle.riff.specs.declared.Walked.{Walked}
 use Rattle.riff.specs.declared.Walked.the-variants.{Whole, Stopped}
 use Rattle.riff.specs.Chunks.{isThere}
 use Rattle.riff.specs.Walk.{partOf, directoryOf}
+use Rattle.formats.specs.declared.Format.{Format}
 use Rattle.formats.specs.Format.{formatOf}
 use Rattle.formats.specs.Frames.{needsFact}
 use Rattle.rules.specs.declared.Record.{Record}
@@ -52,9 +53,9 @@ pub data Content : Type 0 where
   holds : Record → List ℕ → Content
 
 -- a record and its sound where the verdict takes them
-abbrev pub taken : Verdict → Record → List ℕ → Content
-taken Accepted m w = holds m w
-taken (Refused r) m w = refused r
+abbrev pub contentBy : Verdict → Record → List ℕ → Content
+contentBy Accepted m w = holds m w
+contentBy (Refused r) m w = refused r
 
 -- what the chunks say
 abbrev pub recordAt : List ℕ → Directory → Record
@@ -67,7 +68,7 @@ verdictAt s d = verdictOf (formatPart s d) (soundSize s d) (factPart s d) (cuePa
 -- 8: no `fmt ` or no `data`; then 9 to 13
 unfoldable pub contentAt : List ℕ → Directory → Content
 contentAt s d =
-    cond (isThere (d .format) && isThere (d .sound)) (taken (verdictAt s d) (recordAt s d) (soundPart s d)) (refused FormatOrDataMissing)
+    cond (isThere (d .format) && isThere (d .sound)) (contentBy (verdictAt s d) (recordAt s d) (soundPart s d)) (refused FormatOrDataMissing)
 
 -- 1 to 7, then 8 to 13
 abbrev pub contentIn : List ℕ → Walked → Content
@@ -93,7 +94,14 @@ reading s = readingOf (contentOf s)
 unfoldable pub soundIn : List ℕ → List ℕ
 soundIn s = soundOf (contentOf s)
 
--- where the sound stands: at the data of `data` where the file is taken
+-- the format of a file, and how many frames it has
+abbrev pub fileFormat : List ℕ → Format
+fileFormat s = reading s .made .format
+
+abbrev pub fileFrames : List ℕ → ℕ
+fileFrames s = reading s .made .frames .0
+
+-- where the sound stands: at the data of `data` where the file is contentBy
 abbrev pub spotBy : Verdict → Walked → Spot
 spotBy Accepted (Whole d) = d .sound
 spotBy Accepted (Stopped r) = Missing

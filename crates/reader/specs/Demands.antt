@@ -15,47 +15,47 @@ use Rattle.formats.specs.Frames.{wholeBlocks}
 use Rattle.tables.specs.Cues.{noCue}
 use Rattle.tables.specs.Plays.{noPlay}
 use Rattle.rules.specs.declared.Record.{Record}
-use Rattle.rules.specs.Rules.{formatFine, factFine, cuesFine, playsFine, blank}
-use Rattle.reader.specs.Content.{formatPart, soundSize, factPart, cuePart, playlistPart, recordAt, taken, contentOf, reading, soundSpot, soundIn}
+use Rattle.rules.specs.Rules.{formatValid, factValid, cuesValid, playsValid, blank}
+use Rattle.reader.specs.Content.{formatPart, soundSize, factPart, cuePart, playlistPart, recordAt, contentBy, contentOf, reading, soundSpot, soundIn}
 
--- ---- the number that a file gets, in the order of checks and the numbers of document 01; 0 is taken
+-- ---- the number that a file gets, in the order of checks and the numbers of document 01; 0 is contentBy
 
 -- 4 to 7 as the walk says; then 8 to 13 by number
 abbrev pub chunkNumber : List ℕ → Walked → ℕ
 chunkNumber s (Stopped r) = numberOf r
 chunkNumber s (Whole d) =
     cond (not (isThere (d .format)) || not (isThere (d .sound))) 8
-    (cond (not (formatFine (formatPart s d) (recordAt s d .format))) 9
+    (cond (not (formatValid (formatPart s d) (recordAt s d .format))) 9
     (cond (not (wholeBlocks (recordAt s d .format) (soundSize s d))) 10
-    (cond (not (factFine (factPart s d) (recordAt s d .format) (soundSize s d) (recordAt s d .frames))) 11
-    (cond (not (cuesFine (cuePart s d) (recordAt s d .cues) (recordAt s d .frames))) 12
-    (cond (not (playsFine (playlistPart s d) (recordAt s d .playlist) (recordAt s d .cues) (recordAt s d .frames))) 13
+    (cond (not (factValid (factPart s d) (recordAt s d .format) (soundSize s d) (recordAt s d .frames))) 11
+    (cond (not (cuesValid (cuePart s d) (recordAt s d .cues) (recordAt s d .frames))) 12
+    (cond (not (playsValid (playlistPart s d) (recordAt s d .playlist) (recordAt s d .cues) (recordAt s d .frames))) 13
     0)))))
 
 -- 1, 2, 3; then the walk
 abbrev pub numberGiven : List ℕ → ℕ
 numberGiven s = cond (badLength s) 1 (cond (noWave s) 2 (cond (badSize s) 3 (chunkNumber s (walkOf s))))
 
-abbrev pub Numbered : List ℕ → Type 0
-Numbered s = verdictNumber (reading s .verdict) ≡ numberGiven s
+abbrev pub ReadNumbered : List ℕ → Type 0
+ReadNumbered s = verdictNumber (reading s .verdict) ≡ numberGiven s
 
 -- ---- what it answers
 
 -- the answers together are what the file holds
 abbrev pub Tied : List ℕ → Type 0
-Tied s = taken (reading s .verdict) (reading s .made) (soundIn s) ≡ contentOf s
+Tied s = contentBy (reading s .verdict) (reading s .made) (soundIn s) ≡ contentOf s
 
 -- the sound is the part of the file that stands where it is said to
 abbrev pub Placed : List ℕ → Type 0
 Placed s = partOf s (soundSpot s) [] ≡ soundIn s
 
 -- a refused file has no record and no sound
-pub record Empty (s : List ℕ) : Type 0 where
+pub record ReadsNothing (s : List ℕ) : Type 0 where
   pub made : reading s .made ≡ blank
   pub sound : soundIn s ≡ []
 
 abbrev pub Refusing : List ℕ → Type 0
-Refusing s = (r : Refusal) → reading s .verdict ≡ Refused r → Empty s
+Refusing s = (r : Refusal) → reading s .verdict ≡ Refused r → ReadsNothing s
 
 -- past its counts a record reads as zero
 pub record ZeroPast (m : Record) : Type 0 where

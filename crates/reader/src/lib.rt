@@ -15,7 +15,7 @@ ghost use mathlib.Core.Bool.{cond};
 ghost use lib.ListN.{length};
 ghost use Rattle.formats.specs.Frames.{needsFact};
 ghost use Rattle.riff.specs.Walk.{partOf};
-ghost use Rattle.rules.specs.Rules.{answer};
+ghost use Rattle.rules.specs.Rules.{readingBy};
 ghost use Rattle.riff.specs.declared.Walked.the-variants.{Whole};
 ghost use Rattle.reader.specs.Content.{verdictAt, recordAt, contentAt, readingOf, reading, spotBy, soundSpot, soundIn};
 
@@ -33,7 +33,7 @@ fn fact_part<'a>(
     needed: &'a [u8],
     needless: &'a [u8],
 ) -> &'a [u8]
-    ensures { λ r. ⌜ now r ≡ partOf (now (file .entry)) spot (cond (needsFact format) (now (needed .entry)) (now (needless .entry))) ⌝ }
+    ensures part { λ r. ⌜ now r ≡ partOf (now (file .entry)) spot (cond (needsFact format) (now (needed .entry)) (now (needless .entry))) ⌝ }
 {
     if formats::needs_fact(format) {
         return riff::part(file, spot, needed);
@@ -45,7 +45,7 @@ fn fact_part<'a>(
 // is read as an empty one.
 fn read_parts(file: &[u8], places: Directory) -> Reading
     requires { ⌜ length (now file) ≤ 1073741824 ⌝ }
-    ensures { λ r. ⌜ r ≡ answer (verdictAt (now (file .entry)) places) (recordAt (now (file .entry)) places) ⌝ }
+    ensures answer { λ r. ⌜ r ≡ readingBy (verdictAt (now (file .entry)) places) (recordAt (now (file .entry)) places) ⌝ }
 {
     let format_spot = places.format;
     let sound_spot = places.sound;
@@ -64,7 +64,7 @@ fn read_parts(file: &[u8], places: Directory) -> Reading
 // What a file with these chunks says.
 fn read_chunks(file: &[u8], places: Directory) -> Reading
     requires { ⌜ length (now file) ≤ 1073741824 ⌝ }
-    ensures { λ r. ⌜ r ≡ readingOf (contentAt (now (file .entry)) places) ⌝ }
+    ensures answer { λ r. ⌜ r ≡ readingOf (contentAt (now (file .entry)) places) ⌝ }
 {
     let format = places.format;
     let sound = places.sound;
@@ -80,8 +80,8 @@ fn read_chunks(file: &[u8], places: Directory) -> Reading
 // The same, and where the sound data stand; of a refused file, nowhere.
 fn open_chunks(file: &[u8], places: Directory) -> Opened
     requires { ⌜ length (now file) ≤ 1073741824 ⌝ }
-    ensures { λ r. ⌜ (r .answer ≡ readingOf (contentAt (now (file .entry)) places))
-        × (r .sound ≡ spotBy (readingOf (contentAt (now (file .entry)) places) .verdict) (Whole places)) ⌝ }
+    ensures answer { λ r. ⌜ r .answer ≡ readingOf (contentAt (now (file .entry)) places) ⌝ }
+    ensures sound { λ r. ⌜ r .sound ≡ spotBy (readingOf (contentAt (now (file .entry)) places) .verdict) (Whole places) ⌝ }
 {
     let answer = read_chunks(file, places);
     let verdict = answer.verdict;
@@ -100,7 +100,8 @@ fn open_chunks(file: &[u8], places: Directory) -> Opened
 
 // The record of a file, or the refusal, and where its sound data stand.
 pub fn open(file: &[u8]) -> Opened
-    ensures { λ r. ⌜ (r .answer ≡ reading (now (file .entry))) × (r .sound ≡ soundSpot (now (file .entry))) ⌝ }
+    ensures answer { λ r. ⌜ r .answer ≡ reading (now (file .entry)) ⌝ }
+    ensures sound { λ r. ⌜ r .sound ≡ soundSpot (now (file .entry)) ⌝ }
 {
     let walked = riff::chunks(file);
     match walked {
@@ -114,7 +115,7 @@ pub fn open(file: &[u8]) -> Opened
 
 // The record of a file, or the refusal.
 pub fn read(file: &[u8]) -> Reading
-    ensures { λ r. ⌜ r ≡ reading (now (file .entry)) ⌝ }
+    ensures answer { λ r. ⌜ r ≡ reading (now (file .entry)) ⌝ }
 {
     let opened = open(file);
     opened.answer
@@ -122,7 +123,7 @@ pub fn read(file: &[u8]) -> Reading
 
 // Where the sound data of a file stand; of a refused file, nowhere.
 pub fn sound_spot(file: &[u8]) -> Spot
-    ensures { λ r. ⌜ r ≡ soundSpot (now (file .entry)) ⌝ }
+    ensures answer { λ r. ⌜ r ≡ soundSpot (now (file .entry)) ⌝ }
 {
     let opened = open(file);
     opened.sound
@@ -130,7 +131,7 @@ pub fn sound_spot(file: &[u8]) -> Spot
 
 // The sound data of a file, that very part of it; of a refused file, an empty part.
 pub fn sound_of(file: &[u8]) -> &[u8]
-    ensures { λ r. ⌜ now r ≡ soundIn (now (file .entry)) ⌝ }
+    ensures part { λ r. ⌜ now r ≡ soundIn (now (file .entry)) ⌝ }
 {
     let spot = sound_spot(file);
     riff::part(file, spot, &file[..0])

@@ -21,7 +21,7 @@ use Rattle.riff.specs.declared.Directory.{Directory}
 use Rattle.riff.specs.declared.Walked.{Walked}
 use Rattle.riff.specs.declared.Walked.the-variants.{Whole, Stopped}
 use Rattle.riff.specs.Chunks.{headVerdict, sizeAt, nextAt, placed, spotOf, isThere, keep, chunkAt}
-use Rattle.riff.specs.Walk.{nothingYet, andThen, stepsFrom, stepsOf, gather, walkOf, opened, directoryOf}
+use Rattle.riff.specs.Walk.{nothingYet, stepThen, stepsFrom, stepsOf, gather, walkOf, afterHead, directoryOf}
 use Rattle.riff.specs.Demands.{spotExtent}
 use Rattle.riff.proofs.Walking.{Met, met, whole-long}
 
@@ -72,7 +72,7 @@ module _ (s : List ℕ) where
   leads (suc n) e at d w h g = turn (leads n e) (ltb (at .0) (length s)) w
     where
       step : ((to : BytePlace) (c : Directory) → Leads n e to c) → (t : Step) → chunkAt s at d ≡ t
-          → gather d (andThen (stepsFrom n s) d t) ≡ Whole e → 12 + taken e ≤ length s
+          → gather d (stepThen (stepsFrom n s) d t) ≡ Whole e → 12 + taken e ≤ length s
       step on (Refused r) c v = let z : _≡_ {A = ℕ} 0 1 = cc in absurd (omega arith)
       step on (Chunk p) c v =
           let m = met s at d p c in
@@ -80,12 +80,12 @@ module _ (s : List ℕ) where
           on (p .next) (keep d p (p .kind)) v (tiled (at .0) d p m h) (omega (arith, m .fits))
 
       turn : ((to : BytePlace) (c : Directory) → Leads n e to c) → (b : Bool)
-          → gather d (cond b (andThen (stepsFrom n s) d (chunkAt s at d)) []) ≡ Whole e → 12 + taken e ≤ length s
+          → gather d (cond b (stepThen (stepsFrom n s) d (chunkAt s at d)) []) ≡ Whole e → 12 + taken e ≤ length s
       turn on true v = step on (chunkAt s at d) refl v
       turn on false v = let f : taken d ≡ taken e = ap takenIn v in omega arith
 
 -- ---- the header before it
-unopened : (v : Verdict) (w : Walked) (d : Directory) → opened v w ≡ Whole d → w ≡ Whole d
+unopened : (v : Verdict) (w : Walked) (d : Directory) → afterHead v w ≡ Whole d → w ≡ Whole d
 unopened verdict.Accepted w d e = e
 unopened (verdict.Refused r) w d e = let z : _≡_ {A = ℕ} 0 1 = cc in absurd (omega arith)
 

@@ -19,7 +19,7 @@ use Rattle.riff.specs.declared.Directory.{Directory}
 use Rattle.riff.specs.declared.Walked.{Walked}
 use Rattle.riff.specs.declared.Walked.the-variants.{Whole, Stopped}
 use Rattle.riff.specs.Chunks.{headVerdict, nextAt, placed, passes, placeAt, spotOf, isThere, keep, early, waveList, checked, chunkAt}
-use Rattle.riff.specs.Walk.{nothingYet, andThen, stepsFrom, stepsOf, gather, walkOf, opened, directoryOf, refusalOf}
+use Rattle.riff.specs.Walk.{nothingYet, stepThen, stepsFrom, stepsOf, gather, walkOf, afterHead, directoryOf, refusalOf}
 use Rattle.riff.proofs.Heading.{head-short, head-long}
 
 -- ---- a chunk that was met: it stands there, it fits the file, and none of its kind was met before
@@ -86,21 +86,21 @@ module _ (s : List ℕ) (at : ℕ) (d : Directory) where
   here = chunkAt s (record { 0 = at }) d
 
   -- with enough turns, the walk takes one
-  one : (n : ℕ) → at < length s → stepsFrom (suc n) s (record { 0 = at }) d ≡ andThen (stepsFrom n s) d here
+  one : (n : ℕ) → at < length s → stepsFrom (suc n) s (record { 0 = at }) d ≡ stepThen (stepsFrom n s) d here
   unfolding stepsFrom
   one n h = simp (lt-ltb at (length s) h)
 
   stops : (n : ℕ) (r : Refusal) → at < length s → length s ≤ at + n → here ≡ Refused r → Stopped r ≡ gather d (stepsFrom n s (record { 0 = at }) d)
   unfolding gather
   stops zero r h e t = absurd (omega arith)
-  stops (suc n) r h e t = sym (ap (gather d) (one n h ∙ ap (andThen (stepsFrom n s) d) t))
+  stops (suc n) r h e t = sym (ap (gather d) (one n h ∙ ap (stepThen (stepsFrom n s) d) t))
 
   goes : (n : ℕ) (p : Place) → at < length s → length s ≤ at + n → at < p .next .0 → here ≡ Chunk p
       → gather d (stepsFrom n s (record { 0 = at }) d) ≡ walkOf s → Rest s (p .next .0) (keep d p (p .kind))
   unfolding gather
   goes zero p h e m t w = absurd (omega arith)
   goes (suc n) p h e m t w =
-      record { turns = n; enough = omega arith; same = sym (ap (gather d) (one n h ∙ ap (andThen (stepsFrom n s) d) t)) ∙ w }
+      record { turns = n; enough = omega arith; same = sym (ap (gather d) (one n h ∙ ap (stepThen (stepsFrom n s) d) t)) ∙ w }
 
   ends : (n : ℕ) → length s ≤ at → Whole d ≡ gather d (stepsFrom n s (record { 0 = at }) d)
   unfolding stepsFrom gather
@@ -133,11 +133,11 @@ pub ruleset walking = (walk-begins, walk-ends, walk-stops, walk-on, walk-less)
 module _ (s : List ℕ) {v : Verdict} (e : v ≡ headVerdict s) where
   pub open-walks : {w : Walked} → v ≡ verdict.Accepted → w ≡ walkOf s → w ≡ directoryOf s
   unfolding directoryOf
-  open-walks f g = g ∙ sym (ap (λ (u : Verdict). opened u (walkOf s)) (sym e ∙ f))
+  open-walks f g = g ∙ sym (ap (λ (u : Verdict). afterHead u (walkOf s)) (sym e ∙ f))
 
   pub open-refused : {r : Refusal} → v ≡ verdict.Refused r → Stopped r ≡ directoryOf s
   unfolding directoryOf
-  open-refused f = sym (ap (λ (u : Verdict). opened u (walkOf s)) (sym e ∙ f))
+  open-refused f = sym (ap (λ (u : Verdict). afterHead u (walkOf s)) (sym e ∙ f))
 
 pub ruleset opening = (open-walks, open-refused)
 

@@ -22,14 +22,14 @@ abbrev pub nothingYet : Directory
 nothingYet = directory Missing Missing Missing Missing Missing
 
 -- a step, and the steps after it; a refusal is the last
-abbrev pub andThen : (BytePlace → Directory → List Step) → Directory → Step → List Step
-andThen next d (Chunk p) = Chunk p ∷ next (p .next) (keep d p (p .kind))
-andThen next d (Refused r) = Refused r ∷ []
+abbrev pub stepThen : (BytePlace → Directory → List Step) → Directory → Step → List Step
+stepThen next d (Chunk p) = Chunk p ∷ next (p .next) (keep d p (p .kind))
+stepThen next d (Refused r) = Refused r ∷ []
 
 -- the steps from a place to the end of the file, n at most
 unfoldable pub stepsFrom : ℕ → List ℕ → BytePlace → Directory → List Step
 stepsFrom zero s at d = []
-stepsFrom (suc n) s at d = cond (ltb (at .0) (length s)) (andThen (stepsFrom n s) d (chunkAt s at d)) []
+stepsFrom (suc n) s at d = cond (ltb (at .0) (length s)) (stepThen (stepsFrom n s) d (chunkAt s at d)) []
 
 -- the steps of a file, from byte 12; each passes a byte at least, so that there are not more than bytes
 unfoldable pub stepsOf : List ℕ → List Step
@@ -45,12 +45,12 @@ unfoldable pub walkOf : List ℕ → Walked
 walkOf s = gather nothingYet (stepsOf s)
 
 -- a file's directory: 1, 2, 3; then the walk
-abbrev pub opened : Verdict → Walked → Walked
-opened verdict.Accepted w = w
-opened (verdict.Refused r) w = Stopped r
+abbrev pub afterHead : Verdict → Walked → Walked
+afterHead verdict.Accepted w = w
+afterHead (verdict.Refused r) w = Stopped r
 
 unfoldable pub directoryOf : List ℕ → Walked
-directoryOf s = opened (headVerdict s) (walkOf s)
+directoryOf s = afterHead (headVerdict s) (walkOf s)
 
 -- the data of a chunk; where it is missing, what is read in its place
 abbrev pub partOf : List ℕ → Spot → List ℕ → List ℕ

@@ -65,7 +65,7 @@ pub enum Walked {
 
 // Whether the length, the two codes and the size at the start of a file are right.
 fn head(file: &[u8]) -> Verdict
-    ensures { λ r. ⌜ r ≡ headVerdict (now (file .entry)) ⌝ }
+    ensures answer { λ r. ⌜ r ≡ headVerdict (now (file .entry)) ⌝ }
 {
     if file.len() < 12 {
         return Verdict::Refused(Refusal::LengthOutOfRange);
@@ -93,7 +93,7 @@ fn head(file: &[u8]) -> Verdict
 
 // What the chunk at a place is, by its code.
 fn kind_at(file: &[u8], at: usize) -> Kind
-    ensures { λ r. ⌜ r ≡ kindAt (now (file .entry)) at ⌝ }
+    ensures answer { λ r. ⌜ r ≡ kindAt (now (file .entry)) at ⌝ }
 {
     if codes::is_at(file, at, Code::Format) {
         return Kind::Format;
@@ -118,7 +118,7 @@ fn kind_at(file: &[u8], at: usize) -> Kind
 
 // The chunk that starts at a place, where it fits the file.
 fn place_at(file: &[u8], at: BytePlace) -> Step
-    ensures { λ r. ⌜ r ≡ placeAt (now (file .entry)) at ⌝ }
+    ensures answer { λ r. ⌜ r ≡ placeAt (now (file .entry)) at ⌝ }
 {
     let a = at.0;
     if file.len() < 8 {
@@ -144,7 +144,7 @@ fn place_at(file: &[u8], at: BytePlace) -> Step
 
 // Where a chunk of some kind was met.
 fn spot_of(seen: Directory, kind: Kind) -> Spot
-    ensures { λ r. ⌜ r ≡ spotOf seen kind ⌝ }
+    ensures answer { λ r. ⌜ r ≡ spotOf seen kind ⌝ }
 {
     match kind {
         Kind::Format => seen.format,
@@ -159,7 +159,7 @@ fn spot_of(seen: Directory, kind: Kind) -> Spot
 
 // Whether a chunk was met.
 pub fn there(spot: Spot) -> bool
-    ensures { λ r. ⌜ r ≡ isThere spot ⌝ }
+    ensures answer { λ r. ⌜ r ≡ isThere spot ⌝ }
 {
     match spot {
         Spot::At(_) => true,
@@ -169,7 +169,7 @@ pub fn there(spot: Spot) -> bool
 
 // Whether a chunk is the sound, before any format.
 fn too_early(seen: Directory, kind: Kind) -> bool
-    ensures { λ r. ⌜ r ≡ early seen kind ⌝ }
+    ensures answer { λ r. ⌜ r ≡ early seen kind ⌝ }
 {
     let format = seen.format;
     match kind {
@@ -185,7 +185,7 @@ fn too_early(seen: Directory, kind: Kind) -> bool
 
 // Whether a chunk's data starts with `wavl`.
 fn starts_as_waves(file: &[u8], place: Place) -> bool
-    ensures { λ r. ⌜ r ≡ startsAsWaves (now (file .entry)) place ⌝ }
+    ensures answer { λ r. ⌜ r ≡ startsAsWaves (now (file .entry)) place ⌝ }
 {
     if place.size.0 < 4 {
         return false;
@@ -195,7 +195,7 @@ fn starts_as_waves(file: &[u8], place: Place) -> bool
 
 // Whether a chunk is a list of waves.
 fn wave_list(file: &[u8], place: Place) -> bool
-    ensures { λ r. ⌜ r ≡ waveList (now (file .entry)) place (place .kind) ⌝ }
+    ensures answer { λ r. ⌜ r ≡ waveList (now (file .entry)) place (place .kind) ⌝ }
 {
     let kind = place.kind;
     match kind {
@@ -211,7 +211,7 @@ fn wave_list(file: &[u8], place: Place) -> bool
 
 // The chunk at a place, or the refusal that ends the walk there.
 pub fn chunk_at(file: &[u8], at: BytePlace, seen: Directory) -> Step
-    ensures { λ r. ⌜ r ≡ chunkAt (now (file .entry)) at seen ⌝ }
+    ensures answer { λ r. ⌜ r ≡ chunkAt (now (file .entry)) at seen ⌝ }
 {
     let step = place_at(file, at);
     let Step::Chunk(place) = step else {
@@ -233,7 +233,7 @@ pub fn chunk_at(file: &[u8], at: BytePlace, seen: Directory) -> Step
 
 // The directory of five spots.
 fn listed(format: Spot, sound: Spot, fact: Spot, cues: Spot, plays: Spot) -> Directory
-    ensures { λ r. ⌜ r ≡ directory format sound fact cues plays ⌝ }
+    ensures answer { λ r. ⌜ r ≡ directory format sound fact cues plays ⌝ }
 {
     Directory {
         format: format,
@@ -246,7 +246,7 @@ fn listed(format: Spot, sound: Spot, fact: Spot, cues: Spot, plays: Spot) -> Dir
 
 // The directory with one chunk more.
 fn kept(seen: Directory, place: Place) -> Directory
-    ensures { λ r. ⌜ r ≡ keep seen place (place .kind) ⌝ }
+    ensures answer { λ r. ⌜ r ≡ keep seen place (place .kind) ⌝ }
 {
     let kind = place.kind;
     let format = seen.format;
@@ -268,7 +268,7 @@ fn kept(seen: Directory, place: Place) -> Directory
 
 // The refusal that a step is. Of a chunk any answer would do: the walk does not ask.
 fn refusal_of(step: Step) -> Refusal
-    ensures { λ r. ⌜ r ≡ refusalOf step ⌝ }
+    ensures answer { λ r. ⌜ r ≡ refusalOf step ⌝ }
 {
     match step {
         Step::Chunk(_) => Refusal::ChunkPastTheEnd,
@@ -278,7 +278,7 @@ fn refusal_of(step: Step) -> Refusal
 
 // The walk over the chunks from byte 12.
 fn walk(file: &[u8]) -> Walked
-    ensures { λ r. ⌜ r ≡ walkOf (now (file .entry)) ⌝ }
+    ensures answer { λ r. ⌜ r ≡ walkOf (now (file .entry)) ⌝ }
 {
     let mut at: usize = 12;
     let none = Spot::Missing;
@@ -296,7 +296,7 @@ fn walk(file: &[u8]) -> Walked
 
 // The directory of a file, or why it has none: the refusals 1 to 7.
 pub fn chunks(file: &[u8]) -> Walked
-    ensures { λ r. ⌜ r ≡ directoryOf (now (file .entry)) ⌝ }
+    ensures answer { λ r. ⌜ r ≡ directoryOf (now (file .entry)) ⌝ }
 {
     match head(file) {
         Verdict::Accepted => walk(file),
@@ -306,7 +306,7 @@ pub fn chunks(file: &[u8]) -> Walked
 
 // The n bytes of a file from a place, or as many as there are.
 pub fn bytes_from(file: &[u8], from: usize, n: usize) -> &[u8]
-    ensures { λ r. ⌜ now r ≡ take n (drop from (now (file .entry))) ⌝ }
+    ensures part { λ r. ⌜ now r ≡ take n (drop from (now (file .entry))) ⌝ }
 {
     if file.len() <= from {
         return &file[..0];
@@ -319,7 +319,7 @@ pub fn bytes_from(file: &[u8], from: usize, n: usize) -> &[u8]
 
 // A chunk's data, that very part of the file; of a chunk that is missing, what is lent in its place.
 pub fn part<'a>(file: &'a [u8], spot: Spot, absent: &'a [u8]) -> &'a [u8]
-    ensures { λ r. ⌜ now r ≡ partOf (now (file .entry)) spot (now (absent .entry)) ⌝ }
+    ensures part { λ r. ⌜ now r ≡ partOf (now (file .entry)) spot (now (absent .entry)) ⌝ }
 {
     match spot {
         Spot::At(place) => bytes_from(file, place.start.0, place.size.0),
@@ -332,7 +332,7 @@ pub fn part<'a>(file: &'a [u8], spot: Spot, absent: &'a [u8]) -> &'a [u8]
 // Puts a chunk's code and size at a place.
 pub fn put_head(out: &mut [u8], at: usize, code: Code, size: u32)
     requires { ⌜ at + 8 ≤ length (now out) ⌝ }
-    ensures { λ _. ⌜ Put (now (out .entry)) at (headBytes code size) (now (out .exit)) ⌝ }
+    ensures buffer { λ _. ⌜ Put (now (out .entry)) at (headBytes code size) (now (out .exit)) ⌝ }
 {
     codes::put(out, at, code);
     little::put_u32(out, at + 4, size);
@@ -341,7 +341,7 @@ pub fn put_head(out: &mut [u8], at: usize, code: Code, size: u32)
 // Puts the first twelve bytes of a file, whose size is that of all that follows the first eight.
 pub fn put_riff(out: &mut [u8], size: u32)
     requires { ⌜ 12 ≤ length (now out) ⌝ }
-    ensures { λ _. ⌜ Put (now (out .entry)) 0 (riffBytes size) (now (out .exit)) ⌝ }
+    ensures buffer { λ _. ⌜ Put (now (out .entry)) 0 (riffBytes size) (now (out .exit)) ⌝ }
 {
     put_head(out, 0, Code::Riff, size);
     codes::put(out, 8, Code::Wave);

@@ -33,7 +33,7 @@ use Rattle.tables.proofs.Back.{cues-back, plays-back}
 use Rattle.tables.proofs.Kept.{cues-rule-kept, plays-rule-kept}
 use Rattle.tables.proofs.Written.{cues-written, cues-many, plays-written, plays-many}
 use Rattle.rules.specs.declared.Record.{Record}
-use Rattle.rules.specs.Rules.{fine, formatFine, factFine, cuesFine, playsFine, inOrder, verdictOf, recordVerdict, Writable, recordOf}
+use Rattle.rules.specs.Rules.{valid, formatValid, factValid, cuesValid, playsValid, inOrder, verdictOf, recordVerdict, Writable, recordOf}
 use Rattle.rules.specs.Written.{recordKept, RecordFits, FaultSaid}
 use Rattle.rules.proofs.Taken.{record-taken}
 
@@ -54,16 +54,16 @@ module _ {a a′ b b′ c c′ d d′ e e′ : Bool} where
           let q′ = q refl in let r′ = r refl refl in let s′ = s refl refl refl in let t′ = t refl refl refl refl in simp (p, q′, r′, s′, t′)
 
 -- ---- form and rule together
-fine-yes : {form rule : Bool} → form ≡ true → fine form rule ≡ rule
-unfolding fine
+fine-yes : {form rule : Bool} → form ≡ true → valid form rule ≡ rule
+unfolding valid
 fine-yes e = simp e
 
-fine-no : {form : Bool} (rule : Bool) → form ≡ false → fine form rule ≡ false
-unfolding fine
+fine-no : {form : Bool} (rule : Bool) → form ≡ false → valid form rule ≡ false
+unfolding valid
 fine-no rule e = simp e
 
-fine-unruled : (form : Bool) {rule : Bool} → rule ≡ false → fine form rule ≡ false
-unfolding fine
+fine-unruled : (form : Bool) {rule : Bool} → rule ≡ false → valid form rule ≡ false
+unfolding valid
 fine-unruled true e = e
 fine-unruled false e = refl
 
@@ -87,9 +87,9 @@ module _ (m : Record) (n : BytePlace) (h : RecordFits m) (k : FaultSaid m n) whe
   unfolding recordVerdict inOrder
   format-wrong e = simp e
 
-  pub format-same : formatFine (formatBytes f) (formatOf (formatBytes f)) ≡ formatRule f
+  pub format-same : formatValid (formatBytes f) (formatOf (formatBytes f)) ≡ formatRule f
   format-same =
-      implied (formatFine (formatBytes f) (formatOf (formatBytes f))) (formatRule f)
+      implied (formatValid (formatBytes f) (formatOf (formatBytes f))) (formatRule f)
       (λ e. fine-yes (format-written f e) ∙ ap formatRule (format-back f e) ∙ e)
       (λ e. fine-unruled (formatForm (formatBytes f)) (unread e (formatRule (formatOf (formatBytes f))) refl))
     where
@@ -123,9 +123,9 @@ module _ (m : Record) (n : BytePlace) (h : RecordFits m) (k : FaultSaid m n) whe
             let u = unneeded-tag f t in
             sym (frames-pcm f n refl fact u) ∙ ap (λ (i : ℕ). record { 0 = i }) (sym (frames-exactly f n (m .frames) c u))
 
-    pub frames-same : factFine fact f n (framesOf f n fact) ≡ framesRule f n (m .frames)
+    pub frames-same : factValid fact f n (framesOf f n fact) ≡ framesRule f n (m .frames)
     frames-same =
-        implied (factFine fact f n (framesOf f n fact)) (framesRule f n (m .frames))
+        implied (factValid fact f n (framesOf f n fact)) (framesRule f n (m .frames))
         (λ c. fine-yes fact-formed ∙ ap (framesRule f n) (counted c) ∙ c)
         (λ c.
         let t = k .frames (fact-wrong a b c) in
@@ -145,9 +145,9 @@ module _ (c : Cues) (h : CuesFit c) (frames : Frames) where
   unfolding cuesRule
   many-cues g = let l = lt-leb (c .count) 64 g in simp l
 
-  pub cues-same : cuesFine (cuesBytes c) (cuesOf (cuesBytes c)) frames ≡ cuesRule c frames
+  pub cues-same : cuesValid (cuesBytes c) (cuesOf (cuesBytes c)) frames ≡ cuesRule c frames
   cues-same =
-      few (c .count) (cuesFine (cuesBytes c) (cuesOf (cuesBytes c)) frames ≡ cuesRule c frames)
+      few (c .count) (cuesValid (cuesBytes c) (cuesOf (cuesBytes c)) frames ≡ cuesRule c frames)
       (λ l. fine-yes (cues-written h l) ∙ ap (λ (x : Cues). cuesRule x frames) (cues-back h) ∙ cues-rule-kept c frames (h .room))
       (λ l. fine-no (cuesRule (cuesOf (cuesBytes c)) frames) (cues-many h l) ∙ sym (many-cues l))
 
@@ -157,7 +157,7 @@ module _ (c : Cues) (h : CuesFit c) (frames : Frames) where
     many-plays g = let l = lt-leb (p .count) 64 g in simp l
 
     abbrev fineness : Bool
-    fineness = playsFine (playsBytes p) (playsOf (playsBytes p)) (cuesOf (cuesBytes c)) frames
+    fineness = playsValid (playsBytes p) (playsOf (playsBytes p)) (cuesOf (cuesBytes c)) frames
 
     pub plays-same : fineness ≡ playsRule p c frames
     plays-same =
@@ -197,9 +197,9 @@ module _ (m : Record) (n : BytePlace) (h : RecordFits m) {fact : List ℕ}
   verdict-back k =
       same-order (format-same m n h k)
       (λ a. ap (λ (f : Format). wholeBlocks f n) (format-back (m .format) a))
-      (λ a b. ap (λ (f : Format). factFine fact f n (framesOf f n fact)) (format-back (m .format) a) ∙ frames-same m n h k a b (e a))
-      (λ a b c. ap (λ (x : Frames). cuesFine cue (cuesOf cue) x) (said a b c) ∙ cues-same (m .cues) (h .cues) (m .frames))
-      (λ a b c d. ap (λ (x : Frames). playsFine plst (playsOf plst) (cuesOf cue) x) (said a b c) ∙ plays-same (m .cues) (h .cues) (m .frames) (m .playlist) (h .plays))
+      (λ a b. ap (λ (f : Format). factValid fact f n (framesOf f n fact)) (format-back (m .format) a) ∙ frames-same m n h k a b (e a))
+      (λ a b c. ap (λ (x : Frames). cuesValid cue (cuesOf cue) x) (said a b c) ∙ cues-same (m .cues) (h .cues) (m .frames))
+      (λ a b c d. ap (λ (x : Frames). playsValid plst (playsOf plst) (cuesOf cue) x) (said a b c) ∙ plays-same (m .cues) (h .cues) (m .frames) (m .playlist) (h .plays))
     where
       said : formatRule (m .format) ≡ true → wholeBlocks (m .format) n ≡ true → framesRule (m .format) n (m .frames) ≡ true → framesOf (formatOf fmt) n fact ≡ m .frames
       said a b c = ap (λ (f : Format). framesOf f n fact) (format-back (m .format) a) ∙ counted m n h k a b (e a) c

@@ -19,21 +19,21 @@ use Rattle.tables.specs.Cues.{noCues, cuesOf, cuesRule}
 use Rattle.tables.specs.Plays.{noPlays, playsOf, playsRule}
 use Rattle.rules.specs.declared.Record.{Record}
 use Rattle.rules.specs.declared.Reading.{Reading}
-use Rattle.rules.specs.Rules.{fine, formatFine, factFine, cuesFine, playsFine, inOrder, verdictOf, recordVerdict, recordOf, blank, turnedAway, answer, judged}
+use Rattle.rules.specs.Rules.{valid, formatValid, factValid, cuesValid, playsValid, inOrder, verdictOf, recordVerdict, recordOf, blank, turnedAway, readingBy, judged}
 
 -- ---- form and rule
 module _ (form rule : Bool) {x : Bool} (e : x ≡ form) where
-  pub fine-no : not x ≡ true → false ≡ fine form rule
-  unfolding fine
+  pub fine-no : not x ≡ true → false ≡ valid form rule
+  unfolding valid
   fine-no n = simp (sym e ∙ not-true x n)
 
-  pub fine-yes : {y : Bool} → not x ≡ false → y ≡ rule → y ≡ fine form rule
-  unfolding fine
+  pub fine-yes : {y : Bool} → not x ≡ false → y ≡ rule → y ≡ valid form rule
+  unfolding valid
   fine-yes n f = simp (sym e ∙ not-false x n, f)
 
 pub ruleset fineness = (fine-no, fine-yes)
 
--- ---- the record and a refused answer
+-- ---- the record and a refused readingBy
 pub blank-made : {c : Cues} {p : Playlist} → c ≡ noCues → p ≡ noPlays
     → record {
       format = record { tag = 0; channels = 0; rate = 0; bits = 0; align = 0; samples = 0 };
@@ -86,9 +86,9 @@ pub ruleset judging = (judge-format, judge-blocks, judge-fact, judge-cues, judge
 
 -- of the chunks of a file, and of a record to be written
 module _ {a b d i j : Bool} {v : Verdict} (h : v ≡ inOrder a b d i j) where
-  pub of-chunks : (fmt : List ℕ) (n : BytePlace) (fact cue plst : List ℕ) (m : Record) → a ≡ formatFine fmt (m .format)
-      → b ≡ wholeBlocks (m .format) n → d ≡ factFine fact (m .format) n (m .frames) → i ≡ cuesFine cue (m .cues) (m .frames)
-      → j ≡ playsFine plst (m .playlist) (m .cues) (m .frames) → v ≡ verdictOf fmt n fact cue plst m
+  pub of-chunks : (fmt : List ℕ) (n : BytePlace) (fact cue plst : List ℕ) (m : Record) → a ≡ formatValid fmt (m .format)
+      → b ≡ wholeBlocks (m .format) n → d ≡ factValid fact (m .format) n (m .frames) → i ≡ cuesValid cue (m .cues) (m .frames)
+      → j ≡ playsValid plst (m .playlist) (m .cues) (m .frames) → v ≡ verdictOf fmt n fact cue plst m
   unfolding verdictOf
   of-chunks fmt n fact cue plst m e f g k l = h ∙ (λ x. inOrder (e x) (f x) (g x) (k x) (l x))
 
@@ -100,16 +100,16 @@ module _ {a b d i j : Bool} {v : Verdict} (h : v ≡ inOrder a b d i j) where
 
 pub ruleset ordering = (of-chunks, of-record)
 
--- ---- the answer
+-- ---- the readingBy
 module _ (fmt : List ℕ) (n : BytePlace) (fact cue plst : List ℕ) {m : Record} (e : m ≡ recordOf fmt n fact cue plst) {v : Verdict} (f : v ≡ verdictOf fmt n fact cue plst m) where
-  judged-as : answer v m ≡ judged fmt n fact cue plst
+  judged-as : readingBy v m ≡ judged fmt n fact cue plst
   unfolding judged
   judged-as = simp (f, e)
 
   pub answer-taken : v ≡ Accepted → record { verdict = v; made = m } ≡ judged fmt n fact cue plst
-  answer-taken g = simp g (ap (λ (u : Verdict). answer u m) (sym g) ∙ judged-as)
+  answer-taken g = simp g (ap (λ (u : Verdict). readingBy u m) (sym g) ∙ judged-as)
 
   pub answer-refused : {r : Refusal} {x : Reading} → v ≡ Refused r → x ≡ turnedAway r → x ≡ judged fmt n fact cue plst
-  answer-refused g h = h ∙ ap (λ (u : Verdict). answer u m) (sym g) ∙ judged-as
+  answer-refused g h = h ∙ ap (λ (u : Verdict). readingBy u m) (sym g) ∙ judged-as
 
 pub ruleset answering = (answer-taken, answer-refused)

@@ -26,20 +26,20 @@ recordOf fmt n fact cue plst =
     record { format = formatOf fmt; frames = framesOf (formatOf fmt) n fact; cues = cuesOf cue; playlist = playsOf plst }
 
 -- a chunk has its form, and what it says keeps its rule
-unfoldable pub fine : Bool → Bool → Bool
-fine form rule = form && rule
+unfoldable pub valid : Bool → Bool → Bool
+valid form rule = form && rule
 
-abbrev pub formatFine : List ℕ → Format → Bool
-formatFine fmt f = fine (formatForm fmt) (formatRule f)
+abbrev pub formatValid : List ℕ → Format → Bool
+formatValid fmt f = valid (formatForm fmt) (formatRule f)
 
-abbrev pub factFine : List ℕ → Format → BytePlace → Frames → Bool
-factFine fact f n frames = fine (factForm fact) (framesRule f n frames)
+abbrev pub factValid : List ℕ → Format → BytePlace → Frames → Bool
+factValid fact f n frames = valid (factForm fact) (framesRule f n frames)
 
-abbrev pub cuesFine : List ℕ → Cues → Frames → Bool
-cuesFine cue c frames = fine (cuesForm cue) (cuesRule c frames)
+abbrev pub cuesValid : List ℕ → Cues → Frames → Bool
+cuesValid cue c frames = valid (cuesForm cue) (cuesRule c frames)
 
-abbrev pub playsFine : List ℕ → Playlist → Cues → Frames → Bool
-playsFine plst p c frames = fine (playsForm plst) (playsRule p c frames)
+abbrev pub playsValid : List ℕ → Playlist → Cues → Frames → Bool
+playsValid plst p c frames = valid (playsForm plst) (playsRule p c frames)
 
 -- 9 to 13 by number
 unfoldable pub inOrder : Bool → Bool → Bool → Bool → Bool → Verdict
@@ -55,11 +55,11 @@ inOrder format whole fact cues plays =
 unfoldable pub verdictOf : List ℕ → BytePlace → List ℕ → List ℕ → List ℕ → Record → Verdict
 verdictOf fmt n fact cue plst m =
     inOrder
-    (formatFine fmt (m .format))
+    (formatValid fmt (m .format))
     (wholeBlocks (m .format) n)
-    (factFine fact (m .format) n (m .frames))
-    (cuesFine cue (m .cues) (m .frames))
-    (playsFine plst (m .playlist) (m .cues) (m .frames))
+    (factValid fact (m .format) n (m .frames))
+    (cuesValid cue (m .cues) (m .frames))
+    (playsValid plst (m .playlist) (m .cues) (m .frames))
 
 -- of a record to be written with n bytes of sound: the rules alone, as the writer gives each chunk its form
 unfoldable pub recordVerdict : Record → BytePlace → Verdict
@@ -94,10 +94,10 @@ abbrev pub turnedAway : Refusal → Reading
 turnedAway r = record { verdict = Refused r; made = blank }
 
 -- a record that is taken, or the refusal
-abbrev pub answer : Verdict → Record → Reading
-answer Accepted m = record { verdict = Accepted; made = m }
-answer (Refused r) m = turnedAway r
+abbrev pub readingBy : Verdict → Record → Reading
+readingBy Accepted m = record { verdict = Accepted; made = m }
+readingBy (Refused r) m = turnedAway r
 
 unfoldable pub judged : List ℕ → BytePlace → List ℕ → List ℕ → List ℕ → Reading
 judged fmt n fact cue plst =
-    answer (verdictOf fmt n fact cue plst (recordOf fmt n fact cue plst)) (recordOf fmt n fact cue plst)
+    readingBy (verdictOf fmt n fact cue plst (recordOf fmt n fact cue plst)) (recordOf fmt n fact cue plst)

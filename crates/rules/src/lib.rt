@@ -11,7 +11,7 @@ use units::Refusal;
 use units::Verdict;
 ghost use mathlib.Core.Path.{_≡_};
 ghost use Prim.Native.Nat.{_<_};
-ghost use Rattle.rules.specs.Rules.{formatFine, factFine, cuesFine, playsFine, inOrder, verdictOf, recordVerdict, blank, turnedAway, recordOf, judged};
+ghost use Rattle.rules.specs.Rules.{formatValid, factValid, cuesValid, playsValid, inOrder, verdictOf, recordVerdict, blank, turnedAway, recordOf, judged};
 
 // What a WAVE file says besides its sound.
 pub struct Record {
@@ -29,7 +29,7 @@ pub struct Reading {
 
 // The record that is all zero.
 fn blank_record() -> Record
-    ensures { λ r. ⌜ r ≡ blank ⌝ }
+    ensures answer { λ r. ⌜ r ≡ blank ⌝ }
 {
     let format = Format {
         tag: 0,
@@ -49,7 +49,7 @@ fn blank_record() -> Record
 
 // The answer to a file that is refused.
 pub fn turned_away(refusal: Refusal) -> Reading
-    ensures { λ r. ⌜ r ≡ turnedAway refusal ⌝ }
+    ensures answer { λ r. ⌜ r ≡ turnedAway refusal ⌝ }
 {
     Reading {
         verdict: Verdict::Refused(refusal),
@@ -58,8 +58,8 @@ pub fn turned_away(refusal: Refusal) -> Reading
 }
 
 // Whether a `fmt ` has its form and keeps its rule.
-fn format_fine(bytes: &[u8], format: Format) -> bool
-    ensures { λ r. ⌜ r ≡ formatFine (now (bytes .entry)) format ⌝ }
+fn format_valid(bytes: &[u8], format: Format) -> bool
+    ensures answer { λ r. ⌜ r ≡ formatValid (now (bytes .entry)) format ⌝ }
 {
     let form = formats::format_form(bytes);
     if !form {
@@ -69,8 +69,8 @@ fn format_fine(bytes: &[u8], format: Format) -> bool
 }
 
 // Whether a `fact` has its form, and the frames keep their rule.
-fn fact_fine(fact: &[u8], format: Format, sound: BytePlace, frames: Frames) -> bool
-    ensures { λ r. ⌜ r ≡ factFine (now (fact .entry)) format sound frames ⌝ }
+fn fact_valid(fact: &[u8], format: Format, sound: BytePlace, frames: Frames) -> bool
+    ensures answer { λ r. ⌜ r ≡ factValid (now (fact .entry)) format sound frames ⌝ }
 {
     let form = formats::fact_form(fact);
     if !form {
@@ -80,8 +80,8 @@ fn fact_fine(fact: &[u8], format: Format, sound: BytePlace, frames: Frames) -> b
 }
 
 // Whether a `cue ` has its form and keeps its rule.
-fn cues_fine(bytes: &[u8], cues: Cues, frames: Frames) -> bool
-    ensures { λ r. ⌜ r ≡ cuesFine (now (bytes .entry)) cues frames ⌝ }
+fn cues_valid(bytes: &[u8], cues: Cues, frames: Frames) -> bool
+    ensures answer { λ r. ⌜ r ≡ cuesValid (now (bytes .entry)) cues frames ⌝ }
 {
     let form = tables::cues_form(bytes);
     if !form {
@@ -91,8 +91,8 @@ fn cues_fine(bytes: &[u8], cues: Cues, frames: Frames) -> bool
 }
 
 // Whether a `plst` has its form and keeps its rule.
-fn plays_fine(bytes: &[u8], playlist: Playlist, cues: Cues, frames: Frames) -> bool
-    ensures { λ r. ⌜ r ≡ playsFine (now (bytes .entry)) playlist cues frames ⌝ }
+fn plays_valid(bytes: &[u8], playlist: Playlist, cues: Cues, frames: Frames) -> bool
+    ensures answer { λ r. ⌜ r ≡ playsValid (now (bytes .entry)) playlist cues frames ⌝ }
 {
     let form = tables::plays_form(bytes);
     if !form {
@@ -103,7 +103,7 @@ fn plays_fine(bytes: &[u8], playlist: Playlist, cues: Cues, frames: Frames) -> b
 
 // The verdict by five demands, each met or not: the first that is not met decides.
 fn in_order(format: bool, whole: bool, fact: bool, cues: bool, plays: bool) -> Verdict
-    ensures { λ r. ⌜ r ≡ inOrder format whole fact cues plays ⌝ }
+    ensures answer { λ r. ⌜ r ≡ inOrder format whole fact cues plays ⌝ }
 {
     if !format {
         return Verdict::Refused(Refusal::FormatWrong);
@@ -132,23 +132,23 @@ fn verdict_of(
     plst: &[u8],
     made: Record,
 ) -> Verdict
-    ensures { λ r. ⌜ r ≡ verdictOf (now (fmt .entry)) sound (now (fact .entry)) (now (cue .entry)) (now (plst .entry)) made ⌝ }
+    ensures answer { λ r. ⌜ r ≡ verdictOf (now (fmt .entry)) sound (now (fact .entry)) (now (cue .entry)) (now (plst .entry)) made ⌝ }
 {
     let format = made.format;
     let frames = made.frames;
     let cues = made.cues;
     let playlist = made.playlist;
-    let format_kept = format_fine(fmt, format);
+    let format_kept = format_valid(fmt, format);
     let whole = formats::whole_blocks(format, sound);
-    let fact_kept = fact_fine(fact, format, sound, frames);
-    let cues_kept = cues_fine(cue, cues, frames);
-    let plays_kept = plays_fine(plst, playlist, cues, frames);
+    let fact_kept = fact_valid(fact, format, sound, frames);
+    let cues_kept = cues_valid(cue, cues, frames);
+    let plays_kept = plays_valid(plst, playlist, cues, frames);
     in_order(format_kept, whole, fact_kept, cues_kept, plays_kept)
 }
 
 // The verdict on a record that is to be written with some bytes of sound.
 pub fn record_verdict(made: Record, sound: BytePlace) -> Verdict
-    ensures { λ r. ⌜ r ≡ recordVerdict made sound ⌝ }
+    ensures answer { λ r. ⌜ r ≡ recordVerdict made sound ⌝ }
 {
     let format = made.format;
     let frames = made.frames;
@@ -165,7 +165,7 @@ pub fn record_verdict(made: Record, sound: BytePlace) -> Verdict
 // What the chunks of a file say.
 fn record_of(fmt: &[u8], sound: BytePlace, fact: &[u8], cue: &[u8], plst: &[u8]) -> Record
     requires { ⌜ sound .0 < 4294967296 ⌝ }
-    ensures { λ r. ⌜ r ≡ recordOf (now (fmt .entry)) sound (now (fact .entry)) (now (cue .entry)) (now (plst .entry)) ⌝ }
+    ensures answer { λ r. ⌜ r ≡ recordOf (now (fmt .entry)) sound (now (fact .entry)) (now (cue .entry)) (now (plst .entry)) ⌝ }
 {
     let format = formats::format_of(fmt);
     let frames = formats::frames_of(format, sound, fact);
@@ -182,7 +182,7 @@ fn record_of(fmt: &[u8], sound: BytePlace, fact: &[u8], cue: &[u8], plst: &[u8])
 // The verdict on the chunks of a file, and what they say where it is taken.
 pub fn judge(fmt: &[u8], sound: BytePlace, fact: &[u8], cue: &[u8], plst: &[u8]) -> Reading
     requires { ⌜ sound .0 < 4294967296 ⌝ }
-    ensures { λ r. ⌜ r ≡ judged (now (fmt .entry)) sound (now (fact .entry)) (now (cue .entry)) (now (plst .entry)) ⌝ }
+    ensures answer { λ r. ⌜ r ≡ judged (now (fmt .entry)) sound (now (fact .entry)) (now (cue .entry)) (now (plst .entry)) ⌝ }
 {
     let made = record_of(fmt, sound, fact, cue, plst);
     let verdict = verdict_of(fmt, sound, fact, cue, plst, made);

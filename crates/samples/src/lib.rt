@@ -9,7 +9,7 @@ ghost use Rattle.samples.specs.Sound.{signedOf, bitsOf, sampleAt, sample
 
 // The signed number of 16 bits.
 pub fn from_bits(bits: u16) -> i16
-    ensures { λ r. ⌜ r ≡ signedOf bits ⌝ }
+    ensures answer { λ r. ⌜ r ≡ signedOf bits ⌝ }
 {
     if bits < 32768 {
         return bits as i16;
@@ -19,7 +19,7 @@ pub fn from_bits(bits: u16) -> i16
 
 // The 16 bits of a signed number.
 pub fn to_bits(sample: i16) -> u16
-    ensures { λ r. ⌜ r ≡ bitsOf sample ⌝ }
+    ensures answer { λ r. ⌜ r ≡ bitsOf sample ⌝ }
 {
     if sample < 0 {
         return (sample as i32 + 65536) as u16;
@@ -30,7 +30,7 @@ pub fn to_bits(sample: i16) -> u16
 // The sample at a place.
 pub fn sample_at(bytes: &[u8], at: usize) -> i16
     requires { ⌜ at + 2 ≤ length (now bytes) ⌝ }
-    ensures { λ r. ⌜ r ≡ sampleAt (now (bytes .entry)) at ⌝ }
+    ensures answer { λ r. ⌜ r ≡ sampleAt (now (bytes .entry)) at ⌝ }
 {
     from_bits(little::u16_at(bytes, at))
 }
@@ -38,21 +38,21 @@ pub fn sample_at(bytes: &[u8], at: usize) -> i16
 // Puts a sample at a place.
 pub fn put_sample(out: &mut [u8], at: usize, sample: i16)
     requires { ⌜ at + 2 ≤ length (now out) ⌝ }
-    ensures { λ _. ⌜ Put (now (out .entry)) at (sampleBytes sample) (now (out .exit)) ⌝ }
+    ensures buffer { λ _. ⌜ Put (now (out .entry)) at (sampleBytes sample) (now (out .exit)) ⌝ }
 {
     little::put_u16(out, at, to_bits(sample));
 }
 
 // A value of 8-bit sound as a sample.
 pub fn from_eight(value: u8) -> i16
-    ensures { λ r. ⌜ r ≡ eight value ⌝ }
+    ensures answer { λ r. ⌜ r ≡ eight value ⌝ }
 {
     (value as i16 - 128) * 256
 }
 
 // A wider number held to 16 bits.
 pub fn held(value: i32) -> i16
-    ensures { λ r. ⌜ r ≡ hold value ⌝ }
+    ensures answer { λ r. ⌜ r ≡ hold value ⌝ }
 {
     if value < -32768 {
         return -32768;
@@ -74,7 +74,7 @@ struct Four {
 // The four samples from i on of 16-bit PCM.
 fn four_at(bytes: &[u8], i: usize) -> Four
     requires { ⌜ i + 4 ≤ length (now bytes) / 2 ⌝ }
-    ensures { λ r. ⌜ r .first ∷ r .second ∷ r .third ∷ r .fourth ∷ [] ≡ take 4 (drop i (samplesIn (now (bytes .entry)))) ⌝ }
+    ensures answer { λ r. ⌜ r .first ∷ r .second ∷ r .third ∷ r .fourth ∷ [] ≡ take 4 (drop i (samplesIn (now (bytes .entry)))) ⌝ }
 {
     Four {
         first: sample_at(bytes, 2 * i),
@@ -87,7 +87,7 @@ fn four_at(bytes: &[u8], i: usize) -> Four
 // Puts four samples at a place.
 fn put_four(out: &mut [i16], at: usize, four: Four)
     requires { ⌜ at + 4 ≤ length (now out) ⌝ }
-    ensures { λ _. ⌜ Put (now (out .entry)) at (four .first ∷ four .second ∷ four .third ∷ four .fourth ∷ []) (now (out .exit)) ⌝ }
+    ensures buffer { λ _. ⌜ Put (now (out .entry)) at (four .first ∷ four .second ∷ four .third ∷ four .fourth ∷ []) (now (out .exit)) ⌝ }
 {
     let first = four.first;
     let second = four.second;
@@ -104,7 +104,7 @@ fn put_four(out: &mut [i16], at: usize, four: Four)
 fn eight_from_pcm16(bytes: &[u8], i: usize, out: &mut [i16])
     requires { ⌜ i + 8 ≤ length (now bytes) / 2 ⌝ }
     requires { ⌜ i + 8 ≤ length (now out) ⌝ }
-    ensures { λ _. ⌜ Put (now (out .entry)) i (take 8 (drop i (samplesIn (now (bytes .entry))))) (now (out .exit)) ⌝ }
+    ensures buffer { λ _. ⌜ Put (now (out .entry)) i (take 8 (drop i (samplesIn (now (bytes .entry))))) (now (out .exit)) ⌝ }
 {
     let early = four_at(bytes, i);
     let late = four_at(bytes, i + 4);
@@ -116,7 +116,7 @@ fn eight_from_pcm16(bytes: &[u8], i: usize, out: &mut [i16])
 fn many_from_pcm16(bytes: &[u8], i: usize, out: &mut [i16])
     requires { ⌜ i + 32 ≤ length (now bytes) / 2 ⌝ }
     requires { ⌜ i + 32 ≤ length (now out) ⌝ }
-    ensures { λ _. ⌜ Put (now (out .entry)) i (take 32 (drop i (samplesIn (now (bytes .entry))))) (now (out .exit)) ⌝ }
+    ensures buffer { λ _. ⌜ Put (now (out .entry)) i (take 32 (drop i (samplesIn (now (bytes .entry))))) (now (out .exit)) ⌝ }
 {
     eight_from_pcm16(bytes, i, out);
     eight_from_pcm16(bytes, i + 8, out);
@@ -128,7 +128,7 @@ fn many_from_pcm16(bytes: &[u8], i: usize, out: &mut [i16])
 fn rest_from_pcm16(bytes: &[u8], i: usize, out: &mut [i16])
     requires { ⌜ i ≤ length (now bytes) / 2 ⌝ }
     requires { ⌜ length (now bytes) / 2 ≤ length (now out) ⌝ }
-    ensures { λ _. ⌜ Put (now (out .entry)) i (drop i (samplesIn (now (bytes .entry)))) (now (out .exit)) ⌝ }
+    ensures buffer { λ _. ⌜ Put (now (out .entry)) i (drop i (samplesIn (now (bytes .entry)))) (now (out .exit)) ⌝ }
 {
     let n = bytes.len() / 2;
     let mut j = i;
@@ -141,7 +141,7 @@ fn rest_from_pcm16(bytes: &[u8], i: usize, out: &mut [i16])
 // Turns 16-bit PCM into samples, from the start of a lent buffer.
 pub fn from_pcm16(bytes: &[u8], out: &mut [i16])
     requires { ⌜ length (now bytes) / 2 ≤ length (now out) ⌝ }
-    ensures { λ _. ⌜ now (out .exit) ≡ front (samplesIn (now (bytes .entry))) (now (out .entry)) ⌝ }
+    ensures buffer { λ _. ⌜ now (out .exit) ≡ front (samplesIn (now (bytes .entry))) (now (out .entry)) ⌝ }
 {
     let n = bytes.len() / 2;
     let mut i = 0;
@@ -155,7 +155,7 @@ pub fn from_pcm16(bytes: &[u8], out: &mut [i16])
 // The four samples from i on of 8-bit PCM.
 fn four_of_pcm8(bytes: &[u8], i: usize) -> Four
     requires { ⌜ i + 4 ≤ length (now bytes) ⌝ }
-    ensures { λ r. ⌜ r .first ∷ r .second ∷ r .third ∷ r .fourth ∷ [] ≡ take 4 (drop i (map eight (now (bytes .entry)))) ⌝ }
+    ensures answer { λ r. ⌜ r .first ∷ r .second ∷ r .third ∷ r .fourth ∷ [] ≡ take 4 (drop i (map eight (now (bytes .entry)))) ⌝ }
 {
     Four {
         first: from_eight(bytes[i]),
@@ -169,7 +169,7 @@ fn four_of_pcm8(bytes: &[u8], i: usize) -> Four
 fn eight_from_pcm8(bytes: &[u8], i: usize, out: &mut [i16])
     requires { ⌜ i + 8 ≤ length (now bytes) ⌝ }
     requires { ⌜ i + 8 ≤ length (now out) ⌝ }
-    ensures { λ _. ⌜ Put (now (out .entry)) i (take 8 (drop i (map eight (now (bytes .entry))))) (now (out .exit)) ⌝ }
+    ensures buffer { λ _. ⌜ Put (now (out .entry)) i (take 8 (drop i (map eight (now (bytes .entry))))) (now (out .exit)) ⌝ }
 {
     let early = four_of_pcm8(bytes, i);
     let late = four_of_pcm8(bytes, i + 4);
@@ -181,7 +181,7 @@ fn eight_from_pcm8(bytes: &[u8], i: usize, out: &mut [i16])
 fn sixteen_from_pcm8(bytes: &[u8], i: usize, out: &mut [i16])
     requires { ⌜ i + 16 ≤ length (now bytes) ⌝ }
     requires { ⌜ i + 16 ≤ length (now out) ⌝ }
-    ensures { λ _. ⌜ Put (now (out .entry)) i (take 16 (drop i (map eight (now (bytes .entry))))) (now (out .exit)) ⌝ }
+    ensures buffer { λ _. ⌜ Put (now (out .entry)) i (take 16 (drop i (map eight (now (bytes .entry))))) (now (out .exit)) ⌝ }
 {
     eight_from_pcm8(bytes, i, out);
     eight_from_pcm8(bytes, i + 8, out);
@@ -191,7 +191,7 @@ fn sixteen_from_pcm8(bytes: &[u8], i: usize, out: &mut [i16])
 fn many_from_pcm8(bytes: &[u8], i: usize, out: &mut [i16])
     requires { ⌜ i + 64 ≤ length (now bytes) ⌝ }
     requires { ⌜ i + 64 ≤ length (now out) ⌝ }
-    ensures { λ _. ⌜ Put (now (out .entry)) i (take 64 (drop i (map eight (now (bytes .entry))))) (now (out .exit)) ⌝ }
+    ensures buffer { λ _. ⌜ Put (now (out .entry)) i (take 64 (drop i (map eight (now (bytes .entry))))) (now (out .exit)) ⌝ }
 {
     sixteen_from_pcm8(bytes, i, out);
     sixteen_from_pcm8(bytes, i + 16, out);
@@ -203,7 +203,7 @@ fn many_from_pcm8(bytes: &[u8], i: usize, out: &mut [i16])
 fn rest_from_pcm8(bytes: &[u8], i: usize, out: &mut [i16])
     requires { ⌜ i ≤ length (now bytes) ⌝ }
     requires { ⌜ length (now bytes) ≤ length (now out) ⌝ }
-    ensures { λ _. ⌜ Put (now (out .entry)) i (drop i (map eight (now (bytes .entry)))) (now (out .exit)) ⌝ }
+    ensures buffer { λ _. ⌜ Put (now (out .entry)) i (drop i (map eight (now (bytes .entry)))) (now (out .exit)) ⌝ }
 {
     let mut j = i;
     while j < bytes.len() {
@@ -215,7 +215,7 @@ fn rest_from_pcm8(bytes: &[u8], i: usize, out: &mut [i16])
 // Turns 8-bit PCM into samples, from the start of a lent buffer.
 pub fn from_pcm8(bytes: &[u8], out: &mut [i16])
     requires { ⌜ length (now bytes) ≤ length (now out) ⌝ }
-    ensures { λ _. ⌜ now (out .exit) ≡ front (map eight (now (bytes .entry))) (now (out .entry)) ⌝ }
+    ensures buffer { λ _. ⌜ now (out .exit) ≡ front (map eight (now (bytes .entry))) (now (out .entry)) ⌝ }
 {
     let n = bytes.len();
     let mut i = 0;
@@ -229,7 +229,7 @@ pub fn from_pcm8(bytes: &[u8], out: &mut [i16])
 // Turns samples into 16-bit PCM, from the start of a lent buffer.
 pub fn to_pcm16(sound: &[i16], out: &mut [u8])
     requires { ⌜ 2 * length (now sound) ≤ length (now out) ⌝ }
-    ensures { λ _. ⌜ now (out .exit) ≡ front (soundBytes (now (sound .entry))) (now (out .entry)) ⌝ }
+    ensures buffer { λ _. ⌜ now (out .exit) ≡ front (soundBytes (now (sound .entry))) (now (out .entry)) ⌝ }
 {
     let mut i = 0;
     while i < sound.len() {

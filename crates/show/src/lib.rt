@@ -64,7 +64,7 @@ pub fn bytes(values: &[u8]) {
 // prime.
 pub fn mixed(before: u64, value: u64) -> u64
     requires { ⌜ before < 1000003 ⌝ }
-    ensures { λ r. ⌜ r < 1000003 ⌝ }
+    ensures bound { λ r. ⌜ r < 1000003 ⌝ }
 {
     (before * 31 + value % 65536) % 1000003
 }

@@ -1,4 +1,4 @@
--- The new side and the answer, in the words of the code. Assumes nothing.
+-- The new side and the addedBy, in the words of the code. Assumes nothing.
 use mathlib.Core.Path.{_≡_, refl, sym, ap, _∙_}
 use mathlib.Core.Bool.{Bool, true, false}
 use mathlib.Core.List.{List, [], _++_}
@@ -34,7 +34,7 @@ use Rattle.writer.specs.File.{fileOf, beforeRoom, settled, writing}
 use Rattle.side.specs.declared.Added.{Added}
 use Rattle.side.specs.declared.Added.the-variants.{Bytes, Refused}
 use Rattle.side.specs.Side.{isSide}
-use Rattle.side.specs.Adding.{addVerdict, withSong, newFile, told, answer, adding, holding, emptySide}
+use Rattle.side.specs.Adding.{addVerdict, withSong, newFile, told, addedBy, adding, holding, emptySide}
 use Rattle.side.proofs.Songs.{side-says}
 use Rattle.side.proofs.Answers.{Met, verdict-says, place-says}
 
@@ -58,11 +58,11 @@ pub ruleset joining = (told-bytes, told-refused, held-bytes, held-refused)
 -- ---- two files that were read
 module _ (side : Reading) (w : List ℕ) (song : Reading) (v : List ℕ) (number : Donation) (limit : Frames) {x : Verdict}
     (e : x ≡ addVerdict side w song v number limit) where
-  pub answer-refused : {r : Refusal} (y : Written) → x ≡ verdict.Refused r → Refused r ≡ answer (addVerdict side w song v number limit) y
-  answer-refused y f = ap (λ (z : Verdict). answer z y) (sym f ∙ e)
+  pub answer-refused : {r : Refusal} (y : Written) → x ≡ verdict.Refused r → Refused r ≡ addedBy (addVerdict side w song v number limit) y
+  answer-refused y f = ap (λ (z : Verdict). addedBy z y) (sym f ∙ e)
 
-  pub answer-joined : (y : Written) {r : Added} → x ≡ verdict.Accepted → r ≡ told y → r ≡ answer (addVerdict side w song v number limit) y
-  answer-joined y f g = g ∙ ap (λ (z : Verdict). answer z y) (sym f ∙ e)
+  pub answer-joined : (y : Written) {r : Added} → x ≡ verdict.Accepted → r ≡ told y → r ≡ addedBy (addVerdict side w song v number limit) y
+  answer-joined y f g = g ∙ ap (λ (z : Verdict). addedBy z y) (sym f ∙ e)
 
   -- ---- the song has place
   module _ (f : x ≡ verdict.Accepted) where
@@ -84,10 +84,10 @@ pub ruleset reading-added = (answer-refused, answer-joined, side-stands, few-cue
 module _ (s t : List ℕ) (number : Donation) (limit : Frames) {side song : Reading} {w v : List ℕ}
     (a : side ≡ reading s) (b : w ≡ soundIn s) (c : song ≡ reading t) (d : v ≡ soundIn t) where
   pub added : (room : ℕ) {r : Added}
-      → r ≡ answer (addVerdict side w song v number limit) (writing (withSong (side .made) number (song .made .frames)) (w ++ v) room)
+      → r ≡ addedBy (addVerdict side w song v number limit) (writing (withSong (side .made) number (song .made .frames)) (w ++ v) room)
       → r ≡ adding s t number limit room
   unfolding adding
-  added room e = e ∙ (λ i. answer (addVerdict (a i) (b i) (c i) (d i) number limit) (writing (withSong (a i .made) number (c i .made .frames)) (b i ++ d i) room))
+  added room e = e ∙ (λ i. addedBy (addVerdict (a i) (b i) (c i) (d i) number limit) (writing (withSong (a i .made) number (c i .made .frames)) (b i ++ d i) room))
 
   pub new-held : (r : Added) (old : List ℕ) {z : List ℕ} → z ≡ holding r (fileOf (withSong (side .made) number (song .made .frames)) (w ++ v)) old
       → z ≡ holding r (newFile s t number) old

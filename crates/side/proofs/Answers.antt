@@ -1,4 +1,4 @@
--- What an answer of adding says, both ways: a song is taken exactly where each demand is met, and then the new file is written.
+-- What an addedBy of adding says, both ways: a song is taken exactly where each demand is met, and then the new file is written.
 -- Assumes nothing.
 use mathlib.Core.Path.{_≡_, refl, ap}
 use mathlib.Core.Bool.{Bool, true, false, cond}
@@ -19,15 +19,14 @@ use Rattle.units.specs.Refusals.{demand}
 use Rattle.units.proofs.Laws.{demand-met}
 use Rattle.rules.specs.declared.Record.{Record}
 use Rattle.rules.specs.declared.Reading.{Reading}
-use Rattle.reader.specs.Content.{reading, soundIn}
+use Rattle.reader.specs.Content.{reading, soundIn, fileFormat, fileFrames}
 use Rattle.writer.specs.declared.Written.{Written}
 use Rattle.writer.specs.declared.Written.the-variants as written
 use Rattle.writer.specs.File.{writing}
 use Rattle.writer.proofs.Settling.{and-met}
 use Rattle.side.specs.declared.Added.the-variants.{Bytes, Refused}
 use Rattle.side.specs.Side.{sideRead, songsHeld, isSideFile, songsIn, isListed, listedSound}
-use Rattle.side.specs.Adding.{suits, onceMore, hasPlace, placeVerdict, addVerdict, newRecord, newSound, told, answer, adding}
-use Rattle.side.specs.Demands.{framesIn, formatIn}
+use Rattle.side.specs.Adding.{suits, onceMore, hasPlace, placeVerdict, addVerdict, newRecord, newSound, told, addedBy, adding}
 
 -- ---- each demand of the verdict is met, of two files as they were read
 pub record Met (x : Reading) (w : List ℕ) (y : Reading) (number : Donation) (limit : Frames) : Type 0 where
@@ -81,11 +80,11 @@ place-says m frames limit e =
 pub record Taking (s t : List ℕ) (number : Donation) (limit : Frames) : Type 0 where
   pub taken : reading t .verdict ≡ verdict.Accepted
   pub side : isSideFile s ≡ true
-  pub suited : suits (formatIn s) (formatIn t) ≡ true
-  pub some : 1 ≤ framesIn t
+  pub suited : suits (fileFormat s) (fileFormat t) ≡ true
+  pub some : 1 ≤ fileFrames t
   pub fresh : isListed number (songsIn s) ≡ false
   pub few : reading s .made .cues .count < 64
-  pub within : framesIn s + framesIn t ≤ limit .0
+  pub within : fileFrames s + fileFrames t ≤ limit .0
 
 module _ (s t : List ℕ) (number : Donation) (limit : Frames) where
   abbrev pub place : Bool
@@ -95,11 +94,11 @@ module _ (s t : List ℕ) (number : Donation) (limit : Frames) where
   judged = addVerdict (reading s) (soundIn s) (reading t) (soundIn t) number limit
 
   -- in the words of the tests
-  pub taking : reading t .verdict ≡ verdict.Accepted → isSideFile s ≡ true → suits (formatIn s) (formatIn t) ≡ true
-      → leb 1 (framesIn t) ≡ true → isListed number (songsIn s) ≡ false → place ≡ true → Taking s t number limit
+  pub taking : reading t .verdict ≡ verdict.Accepted → isSideFile s ≡ true → suits (fileFormat s) (fileFormat t) ≡ true
+      → leb 1 (fileFrames t) ≡ true → isListed number (songsIn s) ≡ false → place ≡ true → Taking s t number limit
   taking a b c d e f =
       let q = place-says (reading s .made) (reading t .made .frames) limit f in
-      record { taken = a; side = b; suited = c; some = leb-true 1 (framesIn t) d; fresh = e; few = q .0; within = q .1 }
+      record { taken = a; side = b; suited = c; some = leb-true 1 (fileFrames t) d; fresh = e; few = q .0; within = q .1 }
 
   judged-says : judged ≡ verdict.Accepted → Taking s t number limit
   judged-says e =
@@ -109,9 +108,9 @@ module _ (s t : List ℕ) (number : Donation) (limit : Frames) where
   judged-taken : Taking s t number limit → judged ≡ verdict.Accepted
   unfolding addVerdict placeVerdict hasPlace
   judged-taken k =
-      let a = le-leb 1 (framesIn t) (k .some) in
+      let a = le-leb 1 (fileFrames t) (k .some) in
       let b = lt-ltb (reading s .made .cues .count) 64 (k .few) in
-      let c = le-leb (framesIn s + framesIn t) (limit .0) (k .within) in
+      let c = le-leb (fileFrames s + fileFrames t) (limit .0) (k .within) in
       simp (k .taken, k .side, k .suited, k .fresh, a, b, c)
 
   -- ---- with room for so many bytes
@@ -124,23 +123,23 @@ module _ (s t : List ℕ) (number : Donation) (limit : Frames) where
     unfolding adding
     added-says n e = let p = by judged writes e in (judged-says (p .0), p .1)
       where
-        by : (v : Verdict) (w : Written) → answer v w ≡ Bytes n → (v ≡ verdict.Accepted) × (w ≡ written.Bytes n)
+        by : (v : Verdict) (w : Written) → addedBy v w ≡ Bytes n → (v ≡ verdict.Accepted) × (w ≡ written.Bytes n)
         by verdict.Accepted (written.Bytes k) h = (refl, cc)
         by verdict.Accepted (written.Refused r) h = let z : _≡_ {A = ℕ} 0 1 = cc in absurd (omega arith)
         by (verdict.Refused r) w h = let z : _≡_ {A = ℕ} 0 1 = cc in absurd (omega arith)
 
     pub taking-added : Taking s t number limit → adding s t number limit room ≡ told writes
     unfolding adding
-    taking-added k = ap (λ (v : Verdict). answer v writes) (judged-taken k)
+    taking-added k = ap (λ (v : Verdict). addedBy v writes) (judged-taken k)
 
     -- ---- a song that suits: without frames, or with a number that is listed
     module _ (a : reading t .verdict ≡ verdict.Accepted) (b : isSideFile s ≡ true)
-        (c : suits (formatIn s) (formatIn t) ≡ true) where
-      pub empty-added : leb 1 (framesIn t) ≡ false → adding s t number limit room ≡ Refused SongEmptyOrDifferent
+        (c : suits (fileFormat s) (fileFormat t) ≡ true) where
+      pub empty-added : leb 1 (fileFrames t) ≡ false → adding s t number limit room ≡ Refused SongEmptyOrDifferent
       unfolding adding addVerdict
       empty-added f = simp (a, b, c, f)
 
-      pub listed-added : {q : Bool} → leb 1 (framesIn t) ≡ true → isListed number (songsIn s) ≡ true
+      pub listed-added : {q : Bool} → leb 1 (fileFrames t) ≡ true → isListed number (songsIn s) ≡ true
           → sameBytes (listedSound number (songsIn s)) (soundIn t) ≡ q
           → adding s t number limit room ≡ Refused (cond q AlreadyListed SongEmptyOrDifferent)
       unfolding adding addVerdict placeVerdict onceMore

@@ -11,7 +11,7 @@ use Rattle.little.specs.Same.{sameBytes}
 use Rattle.little.proofs.Comparing.{same-itself, same-not}
 use Rattle.formats.specs.declared.Format.{Format}
 use Rattle.rules.specs.declared.Record.{Record}
-use Rattle.reader.specs.Content.{holds, contentOf, soundIn}
+use Rattle.reader.specs.Content.{holds, contentOf, soundIn, fileFormat, fileFrames}
 use Rattle.writer.specs.Demands.{Back}
 use Rattle.writer.proofs.Settling.{settled-says}
 use Rattle.writer.proofs.Demands.{bytes-say, content-written, back}
@@ -19,7 +19,7 @@ use Rattle.writer.proofs.Bytes.{file-bytes}
 use Rattle.side.specs.declared.Added.{Added}
 use Rattle.side.specs.Side.{Song, songsIn, isListed, listedSound}
 use Rattle.side.specs.Adding.{suits, withSong, newRecord, newSound, newFile, holding}
-use Rattle.side.specs.Demands.{framesIn, formatIn, fileWith, songFrom, Grown, Grows, StaysWithin, Listed, OnceListed, AddedAgain, LeavesAll}
+use Rattle.side.specs.Demands.{fileWith, songFrom, Grown, Grows, StaysWithin, Listed, OnceListed, AddedAgain, LeavesAll}
 use Rattle.side.proofs.Growing.{songs-count}
 use Rattle.side.proofs.Answers.{added-says, empty-added, listed-added}
 use Rattle.side.proofs.Sides.{held-made, held-sound, held-side, held-songs, standing, song-long}
@@ -57,7 +57,7 @@ stays-within s x limit room n h =
     let w : List ℕ = newSound s (x .file) in
     let c = songs-count (standing s (k .side)) in
     let f = g .frames in
-    let one : List Song = songFrom (framesIn s) x ∷ [] in
+    let one : List Song = songFrom (fileFrames s) x ∷ [] in
     let i : length (songsIn (fileWith s x)) ≡ length (songsIn s) + 1 = ap length (g .songs) ∙ length-append (songsIn s) one in
     record {
       songs = omega (arith, k .few);
@@ -69,16 +69,16 @@ stays-within s x limit room n h =
 -- ---- a listed number
 pub once-listed : OnceListed
 unfolding OnceListed
-once-listed s t number limit room a l b c = by (leb 1 (framesIn t)) refl
+once-listed s t number limit room a l b c = by (leb 1 (fileFrames t)) refl
   where
     -- a file with the sound of a listed song has frames
-    frames-some : soundIn t ≡ listedSound number (songsIn s) → framesIn t < 1 → ⊥
+    frames-some : soundIn t ≡ listedSound number (songsIn s) → fileFrames t < 1 → ⊥
     frames-some e h =
-        let z : formatIn s .align * framesIn t ≡ formatIn s .align * 0 = ap (λ (n : ℕ). formatIn s .align * n) (omega arith) in
+        let z : fileFormat s .align * fileFrames t ≡ fileFormat s .align * 0 = ap (λ (n : ℕ). fileFormat s .align * n) (omega arith) in
         let g = ap length e in
         omega (arith, song-long s a t b c, sound-some (standing s a) number l)
 
-    by : (q : Bool) → leb 1 (framesIn t) ≡ q → Listed s t number limit room
+    by : (q : Bool) → leb 1 (fileFrames t) ≡ q → Listed s t number limit room
     by true f =
         record {
           same = λ e.
@@ -90,7 +90,7 @@ once-listed s t number limit room a l b c = by (leb 1 (framesIn t)) refl
         }
     by false f =
         record {
-          same = λ e. absurd (frames-some e (leb-false 1 (framesIn t) f));
+          same = λ e. absurd (frames-some e (leb-false 1 (fileFrames t) f));
           other = λ n. empty-added s t number limit room b a c f;
         }
 
@@ -101,7 +101,7 @@ added-again s x limit room n h t later lent v f =
     let k = added-says s (x .file) (x .number) limit room n (h .answer) .0 in
     let g : Grown s x n = grows s x limit room n h in
     let new : List ℕ = fileWith s x in
-    let one : List Song = songFrom (framesIn s) x ∷ [] in
+    let one : List Song = songFrom (fileFrames s) x ∷ [] in
     let own = eq-eqb (x .number .0) (x .number .0) refl in
     let i : isListed (x .number) (songsIn new) ≡ true =
     ap (isListed (x .number)) (g .songs)
@@ -111,7 +111,7 @@ added-again s x limit room n h t later lent v f =
     ap (listedSound (x .number)) (g .songs)
     ∙ sound-behind (x .number) (songsIn s) one (k .fresh)
     ∙ ap (λ (q : Bool). cond q (soundIn (x .file)) []) own in
-    let o = once-listed new t (x .number) later lent (g .side) i v (ap (λ (z : Format). suits z (formatIn t)) (g .format) ∙ f) in
+    let o = once-listed new t (x .number) later lent (g .side) i v (ap (λ (z : Format). suits z (fileFormat t)) (g .format) ∙ f) in
     record { same = λ e. o .same (e ∙ sym j); other = λ e. o .other (λ z. e (z ∙ j)) }
 
 pub leaves-all : LeavesAll

@@ -102,7 +102,7 @@ module _ (channels rate : ℕ) where
       sym (file-size m [] (format-pcm-long (m .format) refl) refl f (cues-none (m .cues) (omega arith)) (plays-none (m .playlist) (omega arith)))
 
 pub empty-numbered : EmptyNumbered
-unfolding EmptyNumbered below.Numbered
+unfolding EmptyNumbered below.WriteNumbered
 empty-numbered channels rate room = by (formatRule (emptySide channels rate .format)) refl
   where
     by : (b : Bool) → formatRule (emptySide channels rate .format) ≡ b

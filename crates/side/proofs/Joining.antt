@@ -12,13 +12,13 @@ use Rattle.units.specs.declared.Donation.{Donation}
 use Rattle.units.specs.declared.Frames.{Frames}
 use Rattle.rules.specs.Rules.{Writable}
 use Rattle.rules.specs.Written.{recordKept, RecordFits}
-use Rattle.reader.specs.Content.{reading, soundIn}
+use Rattle.reader.specs.Content.{reading, soundIn, fileFormat, fileFrames}
 use Rattle.reader.proofs.Kept.{content-taken}
 use Rattle.reader.proofs.Again.{content-fits, content-kept-read}
 use Rattle.writer.specs.File.{sizeOf}
 use Rattle.side.specs.Side.{isSide, songsHeld, songsIn}
 use Rattle.side.specs.Adding.{newRecord, newSound, newFile}
-use Rattle.side.specs.Demands.{framesIn, formatIn, songFrom, sideSize}
+use Rattle.side.specs.Demands.{songFrom, sideSize}
 use Rattle.side.proofs.Growing.{Standing, songs-count, grown-rules, grown-fits, grown-kept, grown-side, grown-songs, grown-long}
 use Rattle.side.proofs.Answers.{Taking}
 use Rattle.side.proofs.Sides.{sound-bytes, side-held, standing, song-long}
@@ -30,7 +30,7 @@ module _ {s t : List ℕ} {number : Donation} {limit : Frames} (k : Taking s t n
   stands : Standing (reading s .made) (soundIn s)
   stands = standing s (k .side)
 
-  long : length (soundIn t) ≡ formatIn s .align * framesIn t
+  long : length (soundIn t) ≡ fileFormat s .align * fileFrames t
   long = song-long s (k .side) t (k .taken) (k .suited)
 
   pub new-rules : Writable (newRecord s t number) (sizeOf (newSound s t))
@@ -53,9 +53,9 @@ module _ {s t : List ℕ} {number : Donation} {limit : Frames} (k : Taking s t n
   new-side = grown-side stands number frames (soundIn t) (k .few) (k .some) long
 
   pub new-songs : songsHeld (newRecord s t number) (newSound s t)
-      ≡ songsIn s ++ (songFrom (framesIn s) (record { file = t; number = number }) ∷ [])
+      ≡ songsIn s ++ (songFrom (fileFrames s) (record { file = t; number = number }) ∷ [])
   new-songs = grown-songs stands number frames (soundIn t) (k .few) (k .some) long
 
-  pub new-long : length (newFile s t number) ≡ sideSize (formatIn s) (length (songsIn s) + 1) (framesIn s + framesIn t)
+  pub new-long : length (newFile s t number) ≡ sideSize (fileFormat s) (length (songsIn s) + 1) (fileFrames s + fileFrames t)
   unfolding newFile
   new-long = omega (arith, songs-count stands, grown-long stands number frames (soundIn t) (k .few) (k .some) long)

@@ -16,13 +16,14 @@ use Rattle.writer.proofs.Demands.{accepted}
 use Rattle.side.specs.declared.Added.the-variants.{Bytes}
 use Rattle.side.specs.Side.{Song, isSideFile, songsIn, isListed}
 use Rattle.side.specs.Adding.{newRecord, newSound, newFile, told, adding}
-use Rattle.side.specs.Demands.{framesIn, formatIn, fileWith, Sent, songFrom, Grown, Grows, sideSize, framesSent, AllSuitable, isSent, OnceEach}
+use Rattle.side.specs.Demands.{fileWith, Sent, songFrom, Grown, Grows, sideSize, framesSent, AllSuitable, isSent, OnceEach}
 use Rattle.side.proofs.Growing.{songs-count}
 use Rattle.side.proofs.Answers.{Taking, taking-added}
 use Rattle.side.proofs.Sides.{standing}
 use Rattle.side.proofs.Listed.{neither, listed-behind}
 use Rattle.side.proofs.Demands.{grows}
 use Rattle.side.proofs.Joining.{new-rules, new-long}
+use Rattle.reader.specs.Content.{fileFormat, fileFrames}
 
 -- ---- songs that a side s can take, one after the other: the numbers are new to it, and all is within the limits
 unfoldable pub NoneListed : List Song → List Sent → Type 0
@@ -48,14 +49,14 @@ none-behind ys y (x ∷ xs) h e =
 pub record Ready (s : List ℕ) (xs : List Sent) (limit : Frames) (room : ℕ) : Type 0 where
   pub bytes : T (areBytes s)
   pub side : isSideFile s ≡ true
-  pub suited : AllSuitable (formatIn s) xs
+  pub suited : AllSuitable (fileFormat s) xs
   pub once : OnceEach xs
   pub fresh : NoneListed (songsIn s) xs
   pub songs : length (songsIn s) + length xs ≤ 64
-  pub frames : framesIn s + framesSent xs ≤ limit .0
+  pub frames : fileFrames s + framesSent xs ≤ limit .0
   pub fits : limit .0 < 4294967296
-  pub size : sideSize (formatIn s) (length (songsIn s) + length xs) (framesIn s + framesSent xs) ≤ 1073741824
-  pub lent : sideSize (formatIn s) (length (songsIn s) + length xs) (framesIn s + framesSent xs) ≤ room
+  pub size : sideSize (fileFormat s) (length (songsIn s) + length xs) (fileFrames s + framesSent xs) ≤ 1073741824
+  pub lent : sideSize (fileFormat s) (length (songsIn s) + length xs) (fileFrames s + framesSent xs) ≤ room
 
 -- the first is taken
 module _ (s : List ℕ) (x : Sent) (xs : List Sent) (limit : Frames) (room : ℕ) (k : Ready s (x ∷ xs) limit room) where
@@ -83,8 +84,8 @@ module _ (s : List ℕ) (x : Sent) (xs : List Sent) (limit : Frames) (room : ℕ
       let h = first-taken in
       let t : List ℕ = x .file in
       let l = new-long h in
-      let p : formatIn s .align * (framesIn s + framesIn t) ≤ formatIn s .align * (framesIn s + (framesIn t + framesSent xs)) =
-      mul-le-mul-left (formatIn s .align) (omega arith) in
+      let p : fileFormat s .align * (fileFrames s + fileFrames t) ≤ fileFormat s .align * (fileFrames s + (fileFrames t + framesSent xs)) =
+      mul-le-mul-left (fileFormat s .align) (omega arith) in
       taking-added s t (x .number) limit room h
       ∙ ap told
       (accepted (newRecord s t (x .number)) (newSound s t) room (new-rules h) (omega (arith, k .size)) (omega (arith, k .lent)))
@@ -100,12 +101,12 @@ module _ (s : List ℕ) (x : Sent) (xs : List Sent) (limit : Frames) (room : ℕ
   unfolding AllSuitable OnceEach NoneListed framesSent
   next-ready =
       let g = first-grown in
-      let y : Song = songFrom (framesIn s) x in
+      let y : Song = songFrom (fileFrames s) x in
       let n : length (songsIn new) ≡ length (songsIn s) + 1 = ap length (g .songs) ∙ length-append (songsIn s) (y ∷ []) in
       let f = g .frames in
-      let r : framesIn new + framesSent xs ≡ framesIn s + (framesIn (x .file) + framesSent xs) = omega arith in
-      let q : formatIn new .align * (framesIn new + framesSent xs)
-      ≡ formatIn s .align * (framesIn s + (framesIn (x .file) + framesSent xs)) = λ i. g .format i .align * r i in
+      let r : fileFrames new + framesSent xs ≡ fileFrames s + (fileFrames (x .file) + framesSent xs) = omega arith in
+      let q : fileFormat new .align * (fileFrames new + framesSent xs)
+      ≡ fileFormat s .align * (fileFrames s + (fileFrames (x .file) + framesSent xs)) = λ i. g .format i .align * r i in
       record {
         bytes = g .bytes;
         side = g .side;

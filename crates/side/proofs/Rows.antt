@@ -1,4 +1,4 @@
--- The number of an answer: each demand of the verdict is a row of the table, and the rules of writing never refuse a song that has
+-- The number of an addedBy: each demand of the verdict is a row of the table, and the rules of writing never refuse a song that has
 -- met them all. Assumes nothing.
 use mathlib.Core.Path.{_≡_, refl, sym, ap, _∙_}
 use mathlib.Core.Bool.{Bool, true, false, not, cond, _&&_, _||_}
@@ -19,15 +19,15 @@ use Rattle.units.specs.declared.Verdict.the-variants as verdict
 use Rattle.units.specs.Refusals.{numberOf, demand}
 use Rattle.rules.specs.declared.Record.{Record}
 use Rattle.rules.specs.Rules.{Writable}
-use Rattle.reader.specs.Content.{reading, soundIn}
+use Rattle.reader.specs.Content.{reading, soundIn, fileFormat, fileFrames}
 use Rattle.writer.specs.declared.Written.{Written}
 use Rattle.writer.specs.declared.Written.the-variants as written
 use Rattle.writer.specs.File.{sizeOf, fileOf, andThen, writing, writtenNumber}
 use Rattle.writer.specs.Demands as below
 use Rattle.writer.proofs.Demands as below-proofs
 use Rattle.side.specs.Side.{isSideFile, songsIn, isListed, listedSound}
-use Rattle.side.specs.Adding.{suits, onceMore, hasPlace, placeVerdict, addVerdict, newRecord, newSound, newFile, told, answer, adding, addedNumber}
-use Rattle.side.specs.Demands.{framesIn, formatIn, orElse, Numbered}
+use Rattle.side.specs.Adding.{suits, onceMore, hasPlace, placeVerdict, addVerdict, newRecord, newSound, newFile, told, addedBy, adding, addedNumber}
+use Rattle.side.specs.Demands.{orElse, AddNumbered}
 use Rattle.side.proofs.Growing.{songs-count}
 use Rattle.side.proofs.Answers.{Taking, place, taking, writes}
 use Rattle.side.proofs.Sides.{standing}
@@ -58,18 +58,18 @@ not-some n =
 
 -- ---- a row: what comes after a demand may take it as met
 module _ (w : Written) where
-  first-row : (u v : Verdict) (n : ℕ) → (u ≡ verdict.Accepted → addedNumber (answer v w) ≡ n)
-      → addedNumber (answer (andThen u v) w) ≡ orElse u n
+  first-row : (u v : Verdict) (n : ℕ) → (u ≡ verdict.Accepted → addedNumber (addedBy v w) ≡ n)
+      → addedNumber (addedBy (andThen u v) w) ≡ orElse u n
   first-row verdict.Accepted v n f = f refl
   first-row (verdict.Refused r) v n f = refl
 
-  row : (b : Bool) (r : Refusal) (v : Verdict) (n : ℕ) → (b ≡ true → addedNumber (answer v w) ≡ n)
-      → addedNumber (answer (demand b r v) w) ≡ cond (not b) (numberOf r) n
+  row : (b : Bool) (r : Refusal) (v : Verdict) (n : ℕ) → (b ≡ true → addedNumber (addedBy v w) ≡ n)
+      → addedNumber (addedBy (demand b r v) w) ≡ cond (not b) (numberOf r) n
   row true r v n f = f refl
   row false r v n f = refl
 
-  listed-row : (b q : Bool) (v : Verdict) (n : ℕ) → (b ≡ false → addedNumber (answer v w) ≡ n)
-      → addedNumber (answer (cond b (verdict.Refused (cond q AlreadyListed SongEmptyOrDifferent)) v) w) ≡ cond b (cond q 18 16) n
+  listed-row : (b q : Bool) (v : Verdict) (n : ℕ) → (b ≡ false → addedNumber (addedBy v w) ≡ n)
+      → addedNumber (addedBy (cond b (verdict.Refused (cond q AlreadyListed SongEmptyOrDifferent)) v) w) ≡ cond b (cond q 18 16) n
   listed-row true true v n f = refl
   listed-row true false v n f = refl
   listed-row false q v n f = f refl
@@ -82,7 +82,7 @@ told-row (written.Refused r) = refl
 written-row : (m : Record) (w : List ℕ) (room : ℕ) → Writable m (sizeOf w)
     → addedNumber (told (writing m w room))
     ≡ cond (ltb 1073741824 (length (fileOf m w))) 1 (cond (ltb room (length (fileOf m w))) 14 0)
-unfolding below.Numbered
+unfolding below.WriteNumbered
 written-row m w room k =
     let e = below-proofs.numbered m w room in
     told-row (writing m w room) ∙ e ∙ simp (k .format, k .whole, k .count, k .cues, k .plays, not-leb)
@@ -90,11 +90,11 @@ written-row m w room k =
 -- ---- the table
 module _ (s t : List ℕ) (number : Donation) (limit : Frames) (room : ℕ) where
   place-row : isSideFile s ≡ true
-      → not (place s t number limit) ≡ (leb 64 (length (songsIn s)) || ltb (limit .0) (framesIn s + framesIn t))
+      → not (place s t number limit) ≡ (leb 64 (length (songsIn s)) || ltb (limit .0) (fileFrames s + fileFrames t))
   unfolding hasPlace
   place-row e =
       let n : ℕ = reading s .made .cues .count in
-      let x : ℕ = framesIn s + framesIn t in
+      let x : ℕ = fileFrames s + fileFrames t in
       let c = songs-count (standing s e) in
       not-both (ltb n 64) (leb x (limit .0))
       ∙ (λ i. not-ltb n 64 i || not-leb x (limit .0) i)
@@ -105,7 +105,7 @@ module _ (s t : List ℕ) (number : Donation) (limit : Frames) (room : ℕ) wher
   fromSize = cond (ltb 1073741824 (length (newFile s t number))) 1 (cond (ltb room (length (newFile s t number))) 14 0)
 
   abbrev fromPlace : ℕ
-  fromPlace = cond (leb 64 (length (songsIn s)) || ltb (limit .0) (framesIn s + framesIn t)) 17 fromSize
+  fromPlace = cond (leb 64 (length (songsIn s)) || ltb (limit .0) (fileFrames s + fileFrames t)) 17 fromSize
 
   abbrev fromListed : ℕ
   fromListed =
@@ -115,16 +115,16 @@ module _ (s t : List ℕ) (number : Donation) (limit : Frames) (room : ℕ) wher
   unfolding newFile
   size-row k = written-row (newRecord s t number) (newSound s t) room (new-rules k)
 
-pub numbered : Numbered
-unfolding Numbered adding addVerdict placeVerdict onceMore
+pub numbered : AddNumbered
+unfolding AddNumbered adding addVerdict placeVerdict onceMore
 numbered s t number limit room =
     let w = writes s t number limit room in
     first-row w (reading t .verdict) _ _ (λ a.
     row w (isSideFile s) NotASide _ _ (λ b.
-    row w (suits (formatIn s) (formatIn t)) FormatWrong _ _ (λ c.
-    row w (leb 1 (framesIn t)) SongEmptyOrDifferent _ (fromListed s t number limit room) (λ d.
+    row w (suits (fileFormat s) (fileFormat t)) FormatWrong _ _ (λ c.
+    row w (leb 1 (fileFrames t)) SongEmptyOrDifferent _ (fromListed s t number limit room) (λ d.
     listed-row w (isListed number (songsIn s)) (sameBytes (listedSound number (songsIn s)) (soundIn t)) _ _ (λ e.
     row w (place s t number limit) NoPlaceOnSide verdict.Accepted (fromSize s t number limit room) (λ f.
     size-row s t number limit room (taking s t number limit a b c d e f))
     ∙ ap (λ (q : Bool). cond q 17 (fromSize s t number limit room)) (place-row s t number limit room b)))
-    ∙ ap (λ (q : Bool). cond q 16 (fromListed s t number limit room)) (not-some (framesIn t)))))
+    ∙ ap (λ (q : Bool). cond q 16 (fromListed s t number limit room)) (not-some (fileFrames t)))))

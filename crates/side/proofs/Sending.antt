@@ -16,7 +16,7 @@ use Rattle.side.specs.declared.Added.{Added}
 use Rattle.side.specs.declared.Added.the-variants.{Bytes, Refused}
 use Rattle.side.specs.Side.{Song, cueList, playList, tiled, songsHeld, isSideFile, songsIn, isListed}
 use Rattle.side.specs.Adding.{newFile, adding}
-use Rattle.side.specs.Demands.{framesIn, formatIn, fileWith, Sent, songFrom, AddedAgain, sideAfter, addAll, inRow, framesSent, Grown, Grows, AllBytewise, Keeps, NoneLost, AllAdded, SentAgain, SentTwice}
+use Rattle.side.specs.Demands.{fileWith, Sent, songFrom, AddedAgain, sideAfter, addAll, inRow, framesSent, Grown, Grows, AllBytewise, Keeps, NoneLost, AllAdded, SentAgain, SentTwice}
 use Rattle.side.proofs.Songs.{side-tiled}
 use Rattle.side.proofs.Growing.{Standing, counts-same, songs-count}
 use Rattle.side.proofs.Answers.{added-says}
@@ -24,6 +24,7 @@ use Rattle.side.proofs.Sides.{standing}
 use Rattle.side.proofs.Listed.{listed-before}
 use Rattle.side.proofs.Demands.{grows, added-again}
 use Rattle.side.proofs.Ready.{NoneListed, none-first, Ready, first-written, first-grown, next-ready}
+use Rattle.reader.specs.Content.{fileFormat, fileFrames}
 
 -- ---- the first of a list, where it is added
 first-added : (limit : Frames) (room : ℕ) (s : List ℕ) (x : Sent) (xs : List Sent) {n : BytePlace}
@@ -61,7 +62,7 @@ none-lost (x ∷ xs) s limit room b e y l =
     by (Bytes n) h next =
         let g : Grown s x n = grows s x limit room n (record { bytes = b; sent = y .0; fits = l; answer = h }) in
         let k = next (fileWith s x) (g .bytes) (g .side) in
-        let one : List Song = songFrom (framesIn s) x ∷ [] in
+        let one : List Song = songFrom (fileFrames s) x ∷ [] in
         record {
           side = k .side;
           format = k .format ∙ g .format;
@@ -97,8 +98,8 @@ sent-again s x xs limit room b e i y l =
 -- ---- along the list
 record Reached (s t : List ℕ) (xs : List Sent) : Type 0 where
   side : isSideFile t ≡ true
-  format : formatIn t ≡ formatIn s
-  songs : songsIn t ≡ songsIn s ++ inRow (framesIn s) xs
+  format : fileFormat t ≡ fileFormat s
+  songs : songsIn t ≡ songsIn s ++ inRow (fileFrames s) xs
 
 all-reached : (xs : List Sent) (s : List ℕ) (limit : Frames) (room : ℕ) → Ready s xs limit room
     → Reached s (addAll limit room s xs) xs
@@ -108,7 +109,7 @@ all-reached (x ∷ xs) s limit room k =
     let g = first-grown s x xs limit room k in
     let new : List ℕ = fileWith s x in
     let h = all-reached xs new limit room (next-ready s x xs limit room k) in
-    let y : Song = songFrom (framesIn s) x in
+    let y : Song = songFrom (fileFrames s) x in
     subst (λ (t : List ℕ). Reached s t (x ∷ xs)) (sym (first-added limit room s x xs (first-written s x xs limit room k)))
     (record {
       side = h .side;
@@ -116,7 +117,7 @@ all-reached (x ∷ xs) s limit room k =
       songs =
           h .songs
           ∙ (λ i. g .songs i ++ inRow (g .frames i) xs)
-          ∙ append-assoc (songsIn s) (y ∷ []) (inRow (framesIn s + framesIn (x .file)) xs);
+          ∙ append-assoc (songsIn s) (y ∷ []) (inRow (fileFrames s + fileFrames (x .file)) xs);
     })
 
 -- ---- from an empty side on
@@ -134,8 +135,8 @@ unfolding AllAdded
 all-added s xs limit room b e n f o l =
     let z = empty-frames (standing s e) n in
     let c : length (songsIn s) ≡ 0 = ap length n in
-    let q : formatIn s .align * (framesIn s + framesSent xs) ≡ formatIn s .align * framesSent xs =
-    ap (λ (i : ℕ). formatIn s .align * i) (omega arith) in
+    let q : fileFormat s .align * (fileFrames s + framesSent xs) ≡ fileFormat s .align * framesSent xs =
+    ap (λ (i : ℕ). fileFormat s .align * i) (omega arith) in
     let h = all-reached xs s limit room (record {
       bytes = b;
       side = e;

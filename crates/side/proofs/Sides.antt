@@ -15,11 +15,10 @@ use Rattle.formats.specs.declared.Format.{Format}
 use Rattle.tables.proofs.Entries.{cues-whole, plays-whole}
 use Rattle.rules.specs.declared.Record.{Record}
 use Rattle.rules.specs.Rules.{recordOf}
-use Rattle.reader.specs.Content.{Content, holds, cuePart, playlistPart, contentOf, readingOf, soundOf, reading, soundIn}
+use Rattle.reader.specs.Content.{Content, holds, cuePart, playlistPart, contentOf, readingOf, soundOf, reading, soundIn, fileFormat, fileFrames}
 use Rattle.reader.proofs.Kept.{held, content-taken, content-rules}
 use Rattle.side.specs.Side.{sixteenBit, isSide, sideRead, songsHeld, isSideFile, songsIn}
 use Rattle.side.specs.Adding.{suits}
-use Rattle.side.specs.Demands.{framesIn, formatIn}
 use Rattle.side.proofs.Sixteen.{sixteen-align, sixteen-long}
 use Rattle.side.proofs.Songs.{side-sixteen, side-says}
 use Rattle.side.proofs.Growing.{Standing}
@@ -67,23 +66,23 @@ module _ (s : List ℕ) (e : isSideFile s ≡ true) where
       }
 
   -- a song that suits it is whole frames of the same size
-  module _ (t : List ℕ) (a : reading t .verdict ≡ Accepted) (f : suits (formatIn s) (formatIn t) ≡ true) where
+  module _ (t : List ℕ) (a : reading t .verdict ≡ Accepted) (f : suits (fileFormat s) (fileFormat t) ≡ true) where
     song-held : holds (reading t .made) (soundIn t) ≡ contentOf t
     song-held = content-taken t refl a refl
 
-    suited-says : (sixteenBit (formatIn t) ≡ true) × (formatIn t .channels ≡ formatIn s .channels)
+    suited-says : (sixteenBit (fileFormat t) ≡ true) × (fileFormat t .channels ≡ fileFormat s .channels)
     unfolding suits
     suited-says =
-        let g : Format = formatIn s in
-        let h : Format = formatIn t in
+        let g : Format = fileFormat s in
+        let h : Format = fileFormat t in
         let p = and-both (sixteenBit h && eqb (h .channels) (g .channels)) (eqb (h .rate) (g .rate)) f in
         let q = and-both (sixteenBit h) (eqb (h .channels) (g .channels)) (p .0) in
         (q .0, eqb-true (h .channels) (g .channels) (q .1))
 
-    pub song-long : length (soundIn t) ≡ formatIn s .align * framesIn t
+    pub song-long : length (soundIn t) ≡ fileFormat s .align * fileFrames t
     song-long =
         let k = content-rules t song-held in
         let p = suited-says in
-        let x : formatIn t .align ≡ formatIn s .align =
+        let x : fileFormat t .align ≡ fileFormat s .align =
         sixteen-align k (p .0) ∙ ap (λ (n : ℕ). 2 * n) (p .1) ∙ sym (sixteen-align (standing .rules) (side-sixteen (reading s .made) (side-parts .1))) in
-        sixteen-long k (p .0) ∙ ap (λ (n : ℕ). n * framesIn t) x
+        sixteen-long k (p .0) ∙ ap (λ (n : ℕ). n * fileFrames t) x

@@ -78,22 +78,22 @@ newSound s t = soundIn s ++ soundIn t
 unfoldable pub newFile : List ℕ → List ℕ → Donation → List ℕ
 newFile s t number = fileOf (newRecord s t number) (newSound s t)
 
--- ---- the answer, with room for so many bytes
+-- ---- the addedBy, with room for so many bytes
 
--- writing's answer, told as adding's
+-- writing's addedBy, told as adding's
 abbrev pub told : Written → Added
 told (written.Bytes n) = Bytes n
 told (written.Refused r) = Refused r
 
--- the verdict's refusal, or else writing's answer
-abbrev pub answer : Verdict → Written → Added
-answer verdict.Accepted x = told x
-answer (verdict.Refused r) x = Refused r
+-- the verdict's refusal, or else writing's addedBy
+abbrev pub addedBy : Verdict → Written → Added
+addedBy verdict.Accepted x = told x
+addedBy (verdict.Refused r) x = Refused r
 
 -- the file is written by the rules of writing: 1 if it would be above the limit; 14
 unfoldable pub adding : List ℕ → List ℕ → Donation → Frames → ℕ → Added
 adding s t number limit room =
-    answer (addVerdict (reading s) (soundIn s) (reading t) (soundIn t) number limit)
+    addedBy (addVerdict (reading s) (soundIn s) (reading t) (soundIn t) number limit)
     (writing (newRecord s t number) (newSound s t) room)
 
 -- a buffer d after it: the file from its start and then what it held, or all as it was
@@ -101,7 +101,7 @@ abbrev pub holding : Added → List ℕ → List ℕ → List ℕ
 holding (Bytes n) ys d = front ys d
 holding (Refused r) ys d = d
 
--- the number of an answer: 0 where the song is added
+-- the number of an addedBy: 0 where the song is added
 abbrev pub addedNumber : Added → ℕ
 addedNumber (Bytes n) = 0
 addedNumber (Refused r) = numberOf r

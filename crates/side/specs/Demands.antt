@@ -17,20 +17,13 @@ use Rattle.units.specs.declared.Verdict.{Verdict}
 use Rattle.units.specs.declared.Verdict.the-variants as verdict
 use Rattle.units.specs.Refusals.{numberOf}
 use Rattle.formats.specs.declared.Format.{Format}
-use Rattle.reader.specs.Content.{reading, soundIn}
+use Rattle.reader.specs.Content.{reading, soundIn, fileFormat, fileFrames}
 use Rattle.writer.specs.declared.Written.the-variants as written
 use Rattle.writer.specs.File.{sizeOf, fileOf, writing, writtenNumber}
 use Rattle.side.specs.declared.Added.{Added}
 use Rattle.side.specs.declared.Added.the-variants.{Bytes, Refused}
 use Rattle.side.specs.Side.{Song, isSideFile, songsIn, isListed, listedSound}
 use Rattle.side.specs.Adding.{suits, newFile, adding, holding, addedNumber, emptySide}
-
--- how many frames a file has, and its format
-abbrev pub framesIn : List ℕ → ℕ
-framesIn s = reading s .made .frames .0
-
-abbrev pub formatIn : List ℕ → Format
-formatIn s = reading s .made .format
 
 -- ---- a song as it is sent: its file, and the number that it was donated under
 pub record Sent : Type 0 where
@@ -72,9 +65,9 @@ pub record Grown (s : List ℕ) (x : Sent) (n : BytePlace) : Type 0 where
   pub long : n ≡ sizeOf (fileWith s x)
   pub bytes : T (areBytes (fileWith s x))
   pub side : isSideFile (fileWith s x) ≡ true
-  pub format : formatIn (fileWith s x) ≡ formatIn s
-  pub frames : framesIn (fileWith s x) ≡ framesIn s + framesIn (x .file)
-  pub songs : songsIn (fileWith s x) ≡ songsIn s ++ (songFrom (framesIn s) x ∷ [])
+  pub format : fileFormat (fileWith s x) ≡ fileFormat s
+  pub frames : fileFrames (fileWith s x) ≡ fileFrames s + fileFrames (x .file)
+  pub songs : songsIn (fileWith s x) ≡ songsIn s ++ (songFrom (fileFrames s) x ∷ [])
   pub sound : soundIn (fileWith s x) ≡ soundIn s ++ soundIn (x .file)
 
 unfoldable pub Grows : Type 0
@@ -88,8 +81,8 @@ sideSize f songs frames = 68 + 36 * songs + f .align * frames
 -- and it is within the limits
 pub record Limited (s : List ℕ) (x : Sent) (limit : Frames) : Type 0 where
   pub songs : length (songsIn (fileWith s x)) ≤ 64
-  pub frames : framesIn (fileWith s x) ≤ limit .0
-  pub size : length (fileWith s x) ≡ sideSize (formatIn s) (length (songsIn s) + 1) (framesIn s + framesIn (x .file))
+  pub frames : fileFrames (fileWith s x) ≤ limit .0
+  pub size : length (fileWith s x) ≡ sideSize (fileFormat s) (length (songsIn s) + 1) (fileFrames s + fileFrames (x .file))
   pub most : length (fileWith s x) ≤ 1073741824
 
 unfoldable pub StaysWithin : Type 0
@@ -105,7 +98,7 @@ unfoldable pub OnceListed : Type 0
 OnceListed =
     (s t : List ℕ) (number : Donation) (limit : Frames) (room : ℕ)
     → isSideFile s ≡ true → isListed number (songsIn s) ≡ true
-    → reading t .verdict ≡ verdict.Accepted → suits (formatIn s) (formatIn t) ≡ true → Listed s t number limit room
+    → reading t .verdict ≡ verdict.Accepted → suits (fileFormat s) (fileFormat t) ≡ true → Listed s t number limit room
 
 -- so it is of the file that adding x made, for every song file t sent under the same number afterwards
 pub record Known (s : List ℕ) (x : Sent) (t : List ℕ) (limit : Frames) (room : ℕ) : Type 0 where
@@ -115,7 +108,7 @@ pub record Known (s : List ℕ) (x : Sent) (t : List ℕ) (limit : Frames) (room
 unfoldable pub AddedAgain : Type 0
 AddedAgain =
     (s : List ℕ) (x : Sent) (limit : Frames) (room : ℕ) (n : BytePlace) → Adds s x limit room n
-    → (t : List ℕ) (later : Frames) (lent : ℕ) → reading t .verdict ≡ verdict.Accepted → suits (formatIn s) (formatIn t) ≡ true
+    → (t : List ℕ) (later : Frames) (lent : ℕ) → reading t .verdict ≡ verdict.Accepted → suits (fileFormat s) (fileFormat t) ≡ true
     → Known s x t later lent
 
 -- ---- a refused add leaves everything as it was
@@ -137,18 +130,18 @@ addAll limit room s (x ∷ xs) = addAll limit room (sideAfter (adding s (x .file
 -- the songs sent, in that order, one behind the other from a frame on
 unfoldable pub inRow : ℕ → List Sent → List Song
 inRow at [] = []
-inRow at (x ∷ xs) = songFrom at x ∷ inRow (at + framesIn (x .file)) xs
+inRow at (x ∷ xs) = songFrom at x ∷ inRow (at + fileFrames (x .file)) xs
 
 unfoldable pub framesSent : List Sent → ℕ
 framesSent [] = 0
-framesSent (x ∷ xs) = framesIn (x .file) + framesSent xs
+framesSent (x ∷ xs) = fileFrames (x .file) + framesSent xs
 
 -- a song that a side of some format can take: its file is taken, it suits the side, and it has frames
 pub record Suitable (f : Format) (x : Sent) : Type 0 where
   pub bytewise : Bytewise x
   pub taken : reading (x .file) .verdict ≡ verdict.Accepted
-  pub suited : suits f (formatIn (x .file)) ≡ true
-  pub frames : 1 ≤ framesIn (x .file)
+  pub suited : suits f (fileFormat (x .file)) ≡ true
+  pub frames : 1 ≤ fileFrames (x .file)
 
 unfoldable pub AllSuitable : Format → List Sent → Type 0
 AllSuitable f [] = Unit {0}
@@ -175,19 +168,19 @@ pub record WithinLimits (f : Format) (xs : List Sent) (limit : Frames) (room : �
 -- an empty side s then has exactly those songs, in that order
 pub record Complete (s t : List ℕ) (xs : List Sent) : Type 0 where
   pub side : isSideFile t ≡ true
-  pub format : formatIn t ≡ formatIn s
+  pub format : fileFormat t ≡ fileFormat s
   pub songs : songsIn t ≡ inRow 0 xs
 
 unfoldable pub AllAdded : Type 0
 AllAdded =
     (s : List ℕ) (xs : List Sent) (limit : Frames) (room : ℕ) → T (areBytes s) → isSideFile s ≡ true → songsIn s ≡ []
-    → AllSuitable (formatIn s) xs → OnceEach xs → WithinLimits (formatIn s) xs limit room
+    → AllSuitable (fileFormat s) xs → OnceEach xs → WithinLimits (fileFormat s) xs limit room
     → Complete s (addAll limit room s xs) xs
 
 -- whatever is sent, however often and in whatever order: the songs that a side s has stay on it, first, in order and unchanged
 pub record Keeps (s t : List ℕ) : Type 0 where
   pub side : isSideFile t ≡ true
-  pub format : formatIn t ≡ formatIn s
+  pub format : fileFormat t ≡ fileFormat s
   pub more : List Song
   pub songs : songsIn t ≡ songsIn s ++ more
 
@@ -214,16 +207,16 @@ SentTwice =
     → addAll limit room s (x ∷ x ∷ xs) ≡ addAll limit room s (x ∷ xs)
 
 -- ---- an empty side that is written is one: a side of those channels and that rate, without a song
-pub record Empty (s : List ℕ) (channels rate : ℕ) : Type 0 where
+pub record IsEmptySide (s : List ℕ) (channels rate : ℕ) : Type 0 where
   pub bytes : T (areBytes s)
   pub side : isSideFile s ≡ true
-  pub format : formatIn s ≡ emptySide channels rate .format
+  pub format : fileFormat s ≡ emptySide channels rate .format
   pub songs : songsIn s ≡ []
 
 unfoldable pub EmptyMade : Type 0
 EmptyMade =
     (channels rate room : ℕ) (n : BytePlace) → writing (emptySide channels rate) [] room ≡ written.Bytes n
-    → Empty (fileOf (emptySide channels rate) []) channels rate
+    → IsEmptySide (fileOf (emptySide channels rate) []) channels rate
 
 -- and it is written: 9 but for 1 or 2 channels and a rate of 1 to 192,000, then 14 without room for its 44 bytes
 unfoldable pub EmptyNumbered : Type 0
@@ -239,16 +232,16 @@ abbrev pub orElse : Verdict → ℕ → ℕ
 orElse verdict.Accepted n = n
 orElse (verdict.Refused r) n = numberOf r
 
-unfoldable pub Numbered : Type 0
-Numbered =
+unfoldable pub AddNumbered : Type 0
+AddNumbered =
     (s t : List ℕ) (number : Donation) (limit : Frames) (room : ℕ)
     → addedNumber (adding s t number limit room)
     ≡ orElse (reading t .verdict)
     (cond (not (isSideFile s)) 19
-    (cond (not (suits (formatIn s) (formatIn t))) 9
-    (cond (eqb (framesIn t) 0) 16
+    (cond (not (suits (fileFormat s) (fileFormat t))) 9
+    (cond (eqb (fileFrames t) 0) 16
     (cond (isListed number (songsIn s)) (cond (sameBytes (listedSound number (songsIn s)) (soundIn t)) 18 16)
-    (cond (leb 64 (length (songsIn s)) || ltb (limit .0) (framesIn s + framesIn t)) 17
+    (cond (leb 64 (length (songsIn s)) || ltb (limit .0) (fileFrames s + fileFrames t)) 17
     (cond (ltb 1073741824 (length (newFile s t number))) 1
     (cond (ltb room (length (newFile s t number))) 14
     0)))))))

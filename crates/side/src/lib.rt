@@ -25,7 +25,7 @@ ghost use lib.ListN.{length, take};
 ghost use Rattle.writer.specs.File.{writing, fileOf};
 ghost use Rattle.writer.specs.File as file;
 ghost use Rattle.side.specs.Side.{sixteenBit, tiled, isSide, sideRead, framesAt, soundAt};
-ghost use Rattle.side.specs.Adding.{suits, hasPlace, onceMore, placeVerdict, addVerdict, withSong, newFile, told, answer, adding, holding, emptySide};
+ghost use Rattle.side.specs.Adding.{suits, hasPlace, onceMore, placeVerdict, addVerdict, withSong, newFile, told, addedBy, adding, holding, emptySide};
 
 // What adding answers: the number of bytes of the new file, or why there is none.
 pub enum Added {
@@ -37,7 +37,7 @@ pub enum Added {
 
 // Whether sound is 16-bit PCM.
 fn is_sixteen_bit(format: Format) -> bool
-    ensures { λ r. ⌜ r ≡ sixteenBit format ⌝ }
+    ensures answer { λ r. ⌜ r ≡ sixteenBit format ⌝ }
 {
     if format.tag != formats::PCM {
         return false;
@@ -47,7 +47,7 @@ fn is_sixteen_bit(format: Format) -> bool
 
 // Whether a cue stands where the song before it ended, and an entry plays it once.
 fn follows(cue: Cue, play: Play, end: u64) -> bool
-    ensures { λ r. ⌜ r ≡ (eqb (cue .place .0) end && eqb (play .name .0) (cue .name .0) && eqb (play .times) 1) ⌝ }
+    ensures answer { λ r. ⌜ r ≡ (eqb (cue .place .0) end && eqb (play .name .0) (cue .name .0) && eqb (play .times) 1) ⌝ }
 {
     if cue.place.0 as u64 != end {
         return false;
@@ -61,7 +61,7 @@ fn follows(cue: Cue, play: Play, end: u64) -> bool
 // Whether the first n cues, each played once and whole by its entry, tile so many frames.
 fn tile(cues: [Cue; 64], plays: [Play; 64], n: usize, frames: Frames) -> bool
     requires { ⌜ n ≤ 64 ⌝ }
-    ensures { λ r. ⌜ r ≡ tiled (take n cues) (take n plays) 0 (frames .0) ⌝ }
+    ensures answer { λ r. ⌜ r ≡ tiled (take n cues) (take n plays) 0 (frames .0) ⌝ }
 {
     let mut end: u64 = 0;
     let mut i = 0;
@@ -81,7 +81,7 @@ fn tile(cues: [Cue; 64], plays: [Play; 64], n: usize, frames: Frames) -> bool
 // Whether the cues, each played once and whole by its entry, tile so many frames.
 fn tables_tile(cues: Cues, playlist: Playlist, frames: Frames) -> bool
     requires { ⌜ (cues .count ≤ 64) × (playlist .count ≤ 64) ⌝ }
-    ensures { λ r. ⌜ r ≡ tiled (take (cues .count) (cues .list)) (take (playlist .count) (playlist .list)) 0 (frames .0) ⌝ }
+    ensures answer { λ r. ⌜ r ≡ tiled (take (cues .count) (cues .list)) (take (playlist .count) (playlist .list)) 0 (frames .0) ⌝ }
 {
     let cue_list = cues.list;
     let play_list = playlist.list;
@@ -94,7 +94,7 @@ fn tables_tile(cues: Cues, playlist: Playlist, frames: Frames) -> bool
 // Whether a record is that of a side.
 fn is_side(made: Record) -> bool
     requires { ⌜ (made .cues .count ≤ 64) × (made .playlist .count ≤ 64) ⌝ }
-    ensures { λ r. ⌜ r ≡ isSide made ⌝ }
+    ensures answer { λ r. ⌜ r ≡ isSide made ⌝ }
 {
     let format = made.format;
     let cues = made.cues;
@@ -109,7 +109,7 @@ fn is_side(made: Record) -> bool
 // Whether a file that was read is a side.
 fn side_read(side: Reading) -> bool
     requires { ⌜ (side .made .cues .count ≤ 64) × (side .made .playlist .count ≤ 64) ⌝ }
-    ensures { λ r. ⌜ r ≡ sideRead side ⌝ }
+    ensures answer { λ r. ⌜ r ≡ sideRead side ⌝ }
 {
     let verdict = side.verdict;
     let made = side.made;
@@ -123,7 +123,7 @@ fn side_read(side: Reading) -> bool
 
 // Whether a song can stand on a side: 16-bit PCM of its channels and rate.
 fn song_suits(side: Format, song: Format) -> bool
-    ensures { λ r. ⌜ r ≡ suits side song ⌝ }
+    ensures answer { λ r. ⌜ r ≡ suits side song ⌝ }
 {
     let sixteen = is_sixteen_bit(song);
     if !sixteen {
@@ -137,7 +137,7 @@ fn song_suits(side: Format, song: Format) -> bool
 
 // Whether there is place for one song more, of so many frames.
 fn has_place(made: Record, frames: Frames, limit: Frames) -> bool
-    ensures { λ r. ⌜ r ≡ hasPlace made frames limit ⌝ }
+    ensures answer { λ r. ⌜ r ≡ hasPlace made frames limit ⌝ }
 {
     let cues = made.cues;
     if tables::MOST <= cues.count {
@@ -148,7 +148,7 @@ fn has_place(made: Record, frames: Frames, limit: Frames) -> bool
 
 // The sound of so many frames from a place on, that very part of a sound.
 fn frames_at(format: Format, sound: &[u8], place: Frames, length: Frames) -> &[u8]
-    ensures { λ r. ⌜ now r ≡ framesAt format (now (sound .entry)) place length ⌝ }
+    ensures part { λ r. ⌜ now r ≡ framesAt format (now (sound .entry)) place length ⌝ }
 {
     let frame = format.align as usize;
     riff::bytes_from(sound, frame * place.0 as usize, frame * length.0 as usize)
@@ -157,7 +157,7 @@ fn frames_at(format: Format, sound: &[u8], place: Frames, length: Frames) -> &[u
 // The sound of the song at index i of a side.
 fn song_sound(made: Record, sound: &[u8], i: usize) -> &[u8]
     requires { ⌜ i < 64 ⌝ }
-    ensures { λ r. ⌜ now r ≡ soundAt made (now (sound .entry)) i ⌝ }
+    ensures part { λ r. ⌜ now r ≡ soundAt made (now (sound .entry)) i ⌝ }
 {
     let format = made.format;
     let cues = made.cues;
@@ -172,7 +172,7 @@ fn song_sound(made: Record, sound: &[u8], i: usize) -> &[u8]
 // The verdict on a number that is listed: the song at index i has it.
 fn once_more(made: Record, sound: &[u8], i: usize, added: &[u8]) -> Verdict
     requires { ⌜ i < 64 ⌝ }
-    ensures { λ r. ⌜ r ≡ onceMore (soundAt made (now (sound .entry)) i) (now (added .entry)) ⌝ }
+    ensures answer { λ r. ⌜ r ≡ onceMore (soundAt made (now (sound .entry)) i) (now (added .entry)) ⌝ }
 {
     let listed = song_sound(made, sound, i);
     let same = little::same_bytes(listed, added);
@@ -192,7 +192,7 @@ fn settle_place(
     limit: Frames,
 ) -> Verdict
     requires { ⌜ (made .cues .count ≤ 64) × (isSide made ≡ true) ⌝ }
-    ensures { λ r. ⌜ r ≡ placeVerdict made (now (sound .entry)) frames (now (added .entry)) number limit ⌝ }
+    ensures answer { λ r. ⌜ r ≡ placeVerdict made (now (sound .entry)) frames (now (added .entry)) number limit ⌝ }
 {
     let cues = made.cues;
     let found = tables::find_cue(cues, number);
@@ -216,7 +216,7 @@ fn settle(
     limit: Frames,
 ) -> Verdict
     requires { ⌜ (side .made .cues .count ≤ 64) × (side .made .playlist .count ≤ 64) ⌝ }
-    ensures { λ r. ⌜ r ≡ addVerdict side (now (sound .entry)) song (now (added .entry)) number limit ⌝ }
+    ensures answer { λ r. ⌜ r ≡ addVerdict side (now (sound .entry)) song (now (added .entry)) number limit ⌝ }
 {
     let verdict = song.verdict;
     let Verdict::Accepted = verdict else {
@@ -244,7 +244,7 @@ fn settle(
 fn with_song(made: Record, number: Donation, frames: Frames) -> Record
     requires { ⌜ (isSide made ≡ true) × (made .cues .count < 64) × (made .playlist .count ≤ 64) ⌝ }
     requires { ⌜ made .frames .0 + frames .0 < 4294967296 ⌝ }
-    ensures { λ r. ⌜ r ≡ withSong made number frames ⌝ }
+    ensures answer { λ r. ⌜ r ≡ withSong made number frames ⌝ }
 {
     let format = made.format;
     let end = made.frames;
@@ -279,8 +279,8 @@ fn join(
 ) -> Added
     requires { ⌜ (isSide made ≡ true) × (made .cues .count < 64) × (made .playlist .count ≤ 64) ⌝ }
     requires { ⌜ made .frames .0 + frames .0 < 4294967296 ⌝ }
-    ensures { λ r. ⌜ (r ≡ told (writing (withSong made number frames) (now (sound .entry) ++ now (added .entry)) (length (now (out .entry)))))
-        × (now (out .exit) ≡ holding r (fileOf (withSong made number frames) (now (sound .entry) ++ now (added .entry))) (now (out .entry))) ⌝ }
+    ensures answer { λ r. ⌜ r ≡ told (writing (withSong made number frames) (now (sound .entry) ++ now (added .entry)) (length (now (out .entry)))) ⌝ }
+    ensures buffer { λ r. ⌜ now (out .exit) ≡ holding r (fileOf (withSong made number frames) (now (sound .entry) ++ now (added .entry))) (now (out .entry)) ⌝ }
 {
     let grown = with_song(made, number, frames);
     match writer::write_joined(grown, sound, added, out) {
@@ -300,9 +300,9 @@ fn add_read(
     out: &mut [u8],
 ) -> Added
     requires { ⌜ (side .made .cues .count ≤ 64) × (side .made .playlist .count ≤ 64) ⌝ }
-    ensures { λ r. ⌜ (r ≡ answer (addVerdict side (now (sound .entry)) song (now (added .entry)) number limit)
-        (writing (withSong (side .made) number (song .made .frames)) (now (sound .entry) ++ now (added .entry)) (length (now (out .entry)))))
-        × (now (out .exit) ≡ holding r (fileOf (withSong (side .made) number (song .made .frames)) (now (sound .entry) ++ now (added .entry))) (now (out .entry))) ⌝ }
+    ensures answer { λ r. ⌜ r ≡ addedBy (addVerdict side (now (sound .entry)) song (now (added .entry)) number limit)
+        (writing (withSong (side .made) number (song .made .frames)) (now (sound .entry) ++ now (added .entry)) (length (now (out .entry)))) ⌝ }
+    ensures buffer { λ r. ⌜ now (out .exit) ≡ holding r (fileOf (withSong (side .made) number (song .made .frames)) (now (sound .entry) ++ now (added .entry))) (now (out .entry)) ⌝ }
 {
     let old = side.made;
     let new = song.made;
@@ -315,8 +315,8 @@ fn add_read(
 
 // Adds a song to a side: the new side is written from the start of a lent buffer.
 pub fn add(side: &[u8], song: &[u8], number: Donation, limit: Frames, out: &mut [u8]) -> Added
-    ensures { λ r. ⌜ (r ≡ adding (now (side .entry)) (now (song .entry)) number limit (length (now (out .entry))))
-        × (now (out .exit) ≡ holding r (newFile (now (side .entry)) (now (song .entry)) number) (now (out .entry))) ⌝ }
+    ensures answer { λ r. ⌜ r ≡ adding (now (side .entry)) (now (song .entry)) number limit (length (now (out .entry))) ⌝ }
+    ensures buffer { λ r. ⌜ now (out .exit) ≡ holding r (newFile (now (side .entry)) (now (song .entry)) number) (now (out .entry)) ⌝ }
 {
     let opened = reader::open(side);
     let sent = reader::open(song);
@@ -334,7 +334,7 @@ pub fn add(side: &[u8], song: &[u8], number: Donation, limit: Frames, out: &mut 
 // The record of an empty side.
 fn empty_record(channels: u16, rate: u32) -> Record
     requires { ⌜ channels ≤ 2 ⌝ }
-    ensures { λ r. ⌜ r ≡ emptySide channels rate ⌝ }
+    ensures answer { λ r. ⌜ r ≡ emptySide channels rate ⌝ }
 {
     let format = Format {
         tag: formats::PCM,
@@ -354,8 +354,8 @@ fn empty_record(channels: u16, rate: u32) -> Record
 
 // Writes an empty side of some channels and a rate, from the start of a lent buffer.
 pub fn empty(channels: u16, rate: u32, out: &mut [u8]) -> Written
-    ensures { λ r. ⌜ (r ≡ writing (emptySide channels rate) [] (length (now (out .entry))))
-        × (now (out .exit) ≡ file.holding r (fileOf (emptySide channels rate) []) (now (out .entry))) ⌝ }
+    ensures answer { λ r. ⌜ r ≡ writing (emptySide channels rate) [] (length (now (out .entry))) ⌝ }
+    ensures buffer { λ r. ⌜ now (out .exit) ≡ file.holding r (fileOf (emptySide channels rate) []) (now (out .entry)) ⌝ }
 {
     // So that the align fits; more channels are refused as writing refuses them.
     if 2 < channels {

@@ -51,7 +51,8 @@ pub struct Playlist {
 
 // The entries of a table that are read: no more than there is room for.
 fn held_of(count: u32) -> usize
-    ensures { λ r. ⌜ (r ≡ held count) × (r ≤ 64) ⌝ }
+    ensures answer { λ r. ⌜ r ≡ held count ⌝ }
+    ensures bound { λ r. ⌜ r ≤ 64 ⌝ }
 {
     if count <= MOST {
         return count as usize;
@@ -64,7 +65,7 @@ fn held_of(count: u32) -> usize
 // The cue point at a place.
 fn cue_at(bytes: &[u8], at: usize) -> Cue
     requires { ⌜ at ≤ 4 + 24 * 64 ⌝ }
-    ensures { λ r. ⌜ r ≡ cueAt (now (bytes .entry)) at ⌝ }
+    ensures answer { λ r. ⌜ r ≡ cueAt (now (bytes .entry)) at ⌝ }
 {
     let name = little::u32_or_zero(bytes, at);
     let position = little::u32_or_zero(bytes, at + 4);
@@ -78,7 +79,7 @@ fn cue_at(bytes: &[u8], at: usize) -> Cue
 
 // Room for cues, all zero.
 fn cue_room() -> [Cue; 64]
-    ensures { λ r. ⌜ r ≡ replicate 64 noCue ⌝ }
+    ensures answer { λ r. ⌜ r ≡ replicate 64 noCue ⌝ }
 {
     let none = Cue {
         name: Donation(0),
@@ -90,7 +91,7 @@ fn cue_room() -> [Cue; 64]
 
 // A table without cues.
 pub fn no_cues() -> Cues
-    ensures { λ r. ⌜ r ≡ noCues ⌝ }
+    ensures answer { λ r. ⌜ r ≡ noCues ⌝ }
 {
     Cues {
         count: 0,
@@ -101,7 +102,7 @@ pub fn no_cues() -> Cues
 // The first n cue points, and zero past them.
 fn cues_in(bytes: &[u8], n: usize) -> [Cue; 64]
     requires { ⌜ n ≤ 64 ⌝ }
-    ensures { λ r. ⌜ r ≡ cuesIn (now (bytes .entry)) n ⌝ }
+    ensures answer { λ r. ⌜ r ≡ cuesIn (now (bytes .entry)) n ⌝ }
 {
     let mut list = cue_room();
     let mut i = 0;
@@ -114,7 +115,7 @@ fn cues_in(bytes: &[u8], n: usize) -> [Cue; 64]
 
 // What a `cue ` says.
 pub fn cues_of(bytes: &[u8]) -> Cues
-    ensures { λ r. ⌜ r ≡ cuesOf (now (bytes .entry)) ⌝ }
+    ensures answer { λ r. ⌜ r ≡ cuesOf (now (bytes .entry)) ⌝ }
 {
     let count = little::u32_or_zero(bytes, 0);
     let n = held_of(count);
@@ -128,7 +129,7 @@ pub fn cues_of(bytes: &[u8]) -> Cues
 // Whether a cue point counts from the start of the data.
 fn plain_cue(bytes: &[u8], at: usize) -> bool
     requires { ⌜ at ≤ 4 + 24 * 64 ⌝ }
-    ensures { λ r. ⌜ r ≡ plainCue (now (bytes .entry)) at ⌝ }
+    ensures answer { λ r. ⌜ r ≡ plainCue (now (bytes .entry)) at ⌝ }
 {
     let in_data = codes::is_at(bytes, at + 8, Code::Data);
     if !in_data {
@@ -144,7 +145,7 @@ fn plain_cue(bytes: &[u8], at: usize) -> bool
 
 // Whether a `cue ` has at most 64 cue points, nothing more, and each counts from the start of the data.
 pub fn cues_form(bytes: &[u8]) -> bool
-    ensures { λ r. ⌜ r ≡ cuesForm (now (bytes .entry)) ⌝ }
+    ensures answer { λ r. ⌜ r ≡ cuesForm (now (bytes .entry)) ⌝ }
 {
     let count = little::u32_or_zero(bytes, 0);
     if MOST < count {
@@ -167,7 +168,7 @@ pub fn cues_form(bytes: &[u8]) -> bool
 
 // The names of cues, as plain numbers.
 fn names_of(list: [Cue; 64]) -> [u32; 64]
-    ensures { λ r. ⌜ r ≡ map nameOf list ⌝ }
+    ensures answer { λ r. ⌜ r ≡ map nameOf list ⌝ }
 {
     let mut names = [0u32; 64];
     let mut i = 0;
@@ -181,7 +182,7 @@ fn names_of(list: [Cue; 64]) -> [u32; 64]
 
 // The places of cues, as plain numbers.
 fn places_of(list: [Cue; 64]) -> [u32; 64]
-    ensures { λ r. ⌜ r ≡ map placeOf list ⌝ }
+    ensures answer { λ r. ⌜ r ≡ map placeOf list ⌝ }
 {
     let mut places = [0u32; 64];
     let mut i = 0;
@@ -195,7 +196,7 @@ fn places_of(list: [Cue; 64]) -> [u32; 64]
 
 // Whether the names of the cues differ, and their places are in the sound.
 pub fn cues_rule(cues: Cues, frames: Frames) -> bool
-    ensures { λ r. ⌜ r ≡ cuesRule cues frames ⌝ }
+    ensures answer { λ r. ⌜ r ≡ cuesRule cues frames ⌝ }
 {
     if MOST < cues.count {
         return false;
@@ -216,7 +217,7 @@ pub fn cues_rule(cues: Cues, frames: Frames) -> bool
 // The playlist entry at a place.
 fn play_at(bytes: &[u8], at: usize) -> Play
     requires { ⌜ at ≤ 4 + 12 * 64 ⌝ }
-    ensures { λ r. ⌜ r ≡ playAt (now (bytes .entry)) at ⌝ }
+    ensures answer { λ r. ⌜ r ≡ playAt (now (bytes .entry)) at ⌝ }
 {
     let name = little::u32_or_zero(bytes, at);
     let length = little::u32_or_zero(bytes, at + 4);
@@ -230,7 +231,7 @@ fn play_at(bytes: &[u8], at: usize) -> Play
 
 // Room for playlist entries, all zero.
 fn play_room() -> [Play; 64]
-    ensures { λ r. ⌜ r ≡ replicate 64 noPlay ⌝ }
+    ensures answer { λ r. ⌜ r ≡ replicate 64 noPlay ⌝ }
 {
     let none = Play {
         name: Donation(0),
@@ -242,7 +243,7 @@ fn play_room() -> [Play; 64]
 
 // A playlist without entries.
 pub fn no_plays() -> Playlist
-    ensures { λ r. ⌜ r ≡ noPlays ⌝ }
+    ensures answer { λ r. ⌜ r ≡ noPlays ⌝ }
 {
     Playlist {
         count: 0,
@@ -253,7 +254,7 @@ pub fn no_plays() -> Playlist
 // The first n playlist entries, and zero past them.
 fn plays_in(bytes: &[u8], n: usize) -> [Play; 64]
     requires { ⌜ n ≤ 64 ⌝ }
-    ensures { λ r. ⌜ r ≡ playsIn (now (bytes .entry)) n ⌝ }
+    ensures answer { λ r. ⌜ r ≡ playsIn (now (bytes .entry)) n ⌝ }
 {
     let mut list = play_room();
     let mut i = 0;
@@ -266,7 +267,7 @@ fn plays_in(bytes: &[u8], n: usize) -> [Play; 64]
 
 // What a `plst` says.
 pub fn plays_of(bytes: &[u8]) -> Playlist
-    ensures { λ r. ⌜ r ≡ playsOf (now (bytes .entry)) ⌝ }
+    ensures answer { λ r. ⌜ r ≡ playsOf (now (bytes .entry)) ⌝ }
 {
     let count = little::u32_or_zero(bytes, 0);
     let n = held_of(count);
@@ -279,7 +280,7 @@ pub fn plays_of(bytes: &[u8]) -> Playlist
 
 // Whether a `plst` has at most 64 entries and nothing more.
 pub fn plays_form(bytes: &[u8]) -> bool
-    ensures { λ r. ⌜ r ≡ playsForm (now (bytes .entry)) ⌝ }
+    ensures answer { λ r. ⌜ r ≡ playsForm (now (bytes .entry)) ⌝ }
 {
     let count = little::u32_or_zero(bytes, 0);
     if MOST < count {
@@ -293,7 +294,7 @@ pub fn plays_form(bytes: &[u8]) -> bool
 // are those of the cues.
 fn playable_entry(play: Play, names: &[u32], places: &[u32], frames: Frames) -> bool
     requires { ⌜ length (now names) ≡ length (now places) ⌝ }
-    ensures { λ r. ⌜ r ≡ playable (now (names .entry)) (now (places .entry)) frames play ⌝ }
+    ensures answer { λ r. ⌜ r ≡ playable (now (names .entry)) (now (places .entry)) frames play ⌝ }
 {
     let name = play.name.0;
     let found = lists::find(names, name);
@@ -314,13 +315,13 @@ fn playable_entry(play: Play, names: &[u32], places: &[u32], frames: Frames) -> 
 // Whether the first n entries can be played.
 fn all_playable(list: [Play; 64], n: usize, names: &[u32], places: &[u32], frames: Frames) -> bool
     requires { ⌜ (n ≤ 64) × (length (now names) ≡ length (now places)) ⌝ }
-    ensures { λ r. ⌜ r ≡ allPlayable (now (names .entry)) (now (places .entry)) frames list n ⌝ }
+    ensures answer { λ r. ⌜ r ≡ allPlayable (now (names .entry)) (now (places .entry)) frames list n ⌝ }
 {
     let mut i = 0;
     while i < n {
         let play = list[i];
-        let fine = playable_entry(play, names, places, frames);
-        if !fine {
+        let valid = playable_entry(play, names, places, frames);
+        if !valid {
             return false;
         }
         i += 1;
@@ -330,7 +331,7 @@ fn all_playable(list: [Play; 64], n: usize, names: &[u32], places: &[u32], frame
 
 // Whether a playlist can be played with some cues.
 pub fn plays_rule(playlist: Playlist, cues: Cues, frames: Frames) -> bool
-    ensures { λ r. ⌜ r ≡ playsRule playlist cues frames ⌝ }
+    ensures answer { λ r. ⌜ r ≡ playsRule playlist cues frames ⌝ }
 {
     if MOST < playlist.count {
         return false;
@@ -348,7 +349,8 @@ pub fn plays_rule(playlist: Playlist, cues: Cues, frames: Frames) -> bool
 
 // The first place of a name among the cues; where it is none of theirs, how many they are.
 pub fn find_cue(cues: Cues, name: Donation) -> usize
-    ensures { λ r. ⌜ (r ≡ indexIn (name .0) (namesIn cues)) × (r ≤ 64) ⌝ }
+    ensures answer { λ r. ⌜ r ≡ indexIn (name .0) (namesIn cues) ⌝ }
+    ensures bound { λ r. ⌜ r ≤ 64 ⌝ }
 {
     let n = held_of(cues.count);
     let list = cues.list;
@@ -359,7 +361,7 @@ pub fn find_cue(cues: Cues, name: Donation) -> usize
 // A cue table with one cue more, behind the others.
 pub fn with_cue(cues: Cues, cue: Cue) -> Cues
     requires { ⌜ cues .count < 64 ⌝ }
-    ensures { λ r. ⌜ r ≡ cuesWith cues cue ⌝ }
+    ensures answer { λ r. ⌜ r ≡ cuesWith cues cue ⌝ }
 {
     let count = cues.count;
     let mut list = cues.list;
@@ -373,7 +375,7 @@ pub fn with_cue(cues: Cues, cue: Cue) -> Cues
 // A playlist with one entry more, behind the others.
 pub fn with_play(playlist: Playlist, play: Play) -> Playlist
     requires { ⌜ playlist .count < 64 ⌝ }
-    ensures { λ r. ⌜ r ≡ playsWith playlist play ⌝ }
+    ensures answer { λ r. ⌜ r ≡ playsWith playlist play ⌝ }
 {
     let count = playlist.count;
     let mut list = playlist.list;
@@ -388,7 +390,9 @@ pub fn with_play(playlist: Playlist, play: Play) -> Playlist
 
 // The bytes that a `cue ` takes.
 pub fn cues_size(cues: Cues) -> usize
-    ensures { λ r. ⌜ (r ≡ length (cuesBytes cues)) × (r ≤ 1540) × (r % 2 ≡ 0) ⌝ }
+    ensures answer { λ r. ⌜ r ≡ length (cuesBytes cues) ⌝ }
+    ensures bound { λ r. ⌜ r ≤ 1540 ⌝ }
+    ensures even { λ r. ⌜ r % 2 ≡ 0 ⌝ }
 {
     4 + 24 * held_of(cues.count)
 }
@@ -396,7 +400,7 @@ pub fn cues_size(cues: Cues) -> usize
 // Puts the name, the position and the chunk code of a cue point.
 fn put_name(out: &mut [u8], at: usize, cue: Cue)
     requires { ⌜ at + 12 ≤ length (now out) ⌝ }
-    ensures { λ _. ⌜ Put (now (out .entry)) at (bytesOf 4 (cue .name .0) ++ (bytesOf 4 (cue .position .0) ++ codeBytes Data)) (now (out .exit)) ⌝ }
+    ensures buffer { λ _. ⌜ Put (now (out .entry)) at (bytesOf 4 (cue .name .0) ++ (bytesOf 4 (cue .position .0) ++ codeBytes Data)) (now (out .exit)) ⌝ }
 {
     little::put_u32(out, at, cue.name.0);
     little::put_u32(out, at + 4, cue.position.0);
@@ -406,7 +410,7 @@ fn put_name(out: &mut [u8], at: usize, cue: Cue)
 // Puts the chunk start, the block start and the place of a cue point.
 fn put_place(out: &mut [u8], at: usize, cue: Cue)
     requires { ⌜ at + 12 ≤ length (now out) ⌝ }
-    ensures { λ _. ⌜ Put (now (out .entry)) at (bytesOf 4 0 ++ (bytesOf 4 0 ++ bytesOf 4 (cue .place .0))) (now (out .exit)) ⌝ }
+    ensures buffer { λ _. ⌜ Put (now (out .entry)) at (bytesOf 4 0 ++ (bytesOf 4 0 ++ bytesOf 4 (cue .place .0))) (now (out .exit)) ⌝ }
 {
     little::put_u32(out, at, 0);
     little::put_u32(out, at + 4, 0);
@@ -416,7 +420,7 @@ fn put_place(out: &mut [u8], at: usize, cue: Cue)
 // Puts a cue point.
 fn put_cue(out: &mut [u8], at: usize, cue: Cue)
     requires { ⌜ at + 24 ≤ length (now out) ⌝ }
-    ensures { λ _. ⌜ Put (now (out .entry)) at (cueBytes cue) (now (out .exit)) ⌝ }
+    ensures buffer { λ _. ⌜ Put (now (out .entry)) at (cueBytes cue) (now (out .exit)) ⌝ }
 {
     put_name(out, at, cue);
     put_place(out, at + 12, cue);
@@ -425,7 +429,7 @@ fn put_cue(out: &mut [u8], at: usize, cue: Cue)
 // Puts the first n cue points.
 fn put_cue_list(out: &mut [u8], at: usize, list: [Cue; 64], n: usize)
     requires { ⌜ (n ≤ 64) × (at + 24 * n ≤ length (now out)) ⌝ }
-    ensures { λ _. ⌜ Put (now (out .entry)) at (entryBytes cueBytes (take n list)) (now (out .exit)) ⌝ }
+    ensures buffer { λ _. ⌜ Put (now (out .entry)) at (entryBytes cueBytes (take n list)) (now (out .exit)) ⌝ }
 {
     let mut i = 0;
     while i < n {
@@ -438,7 +442,7 @@ fn put_cue_list(out: &mut [u8], at: usize, list: [Cue; 64], n: usize)
 // Puts a `cue `.
 pub fn put_cues(out: &mut [u8], at: usize, cues: Cues)
     requires { ⌜ at + length (cuesBytes cues) ≤ length (now out) ⌝ }
-    ensures { λ _. ⌜ Put (now (out .entry)) at (cuesBytes cues) (now (out .exit)) ⌝ }
+    ensures buffer { λ _. ⌜ Put (now (out .entry)) at (cuesBytes cues) (now (out .exit)) ⌝ }
 {
     let n = held_of(cues.count);
     let list = cues.list;
@@ -448,7 +452,9 @@ pub fn put_cues(out: &mut [u8], at: usize, cues: Cues)
 
 // The bytes that a `plst` takes.
 pub fn plays_size(playlist: Playlist) -> usize
-    ensures { λ r. ⌜ (r ≡ length (playsBytes playlist)) × (r ≤ 772) × (r % 2 ≡ 0) ⌝ }
+    ensures answer { λ r. ⌜ r ≡ length (playsBytes playlist) ⌝ }
+    ensures bound { λ r. ⌜ r ≤ 772 ⌝ }
+    ensures even { λ r. ⌜ r % 2 ≡ 0 ⌝ }
 {
     4 + 12 * held_of(playlist.count)
 }
@@ -456,7 +462,7 @@ pub fn plays_size(playlist: Playlist) -> usize
 // Puts a playlist entry.
 fn put_play(out: &mut [u8], at: usize, play: Play)
     requires { ⌜ at + 12 ≤ length (now out) ⌝ }
-    ensures { λ _. ⌜ Put (now (out .entry)) at (playBytes play) (now (out .exit)) ⌝ }
+    ensures buffer { λ _. ⌜ Put (now (out .entry)) at (playBytes play) (now (out .exit)) ⌝ }
 {
     little::put_u32(out, at, play.name.0);
     little::put_u32(out, at + 4, play.length.0);
@@ -466,7 +472,7 @@ fn put_play(out: &mut [u8], at: usize, play: Play)
 // Puts the first n playlist entries.
 fn put_play_list(out: &mut [u8], at: usize, list: [Play; 64], n: usize)
     requires { ⌜ (n ≤ 64) × (at + 12 * n ≤ length (now out)) ⌝ }
-    ensures { λ _. ⌜ Put (now (out .entry)) at (entryBytes playBytes (take n list)) (now (out .exit)) ⌝ }
+    ensures buffer { λ _. ⌜ Put (now (out .entry)) at (entryBytes playBytes (take n list)) (now (out .exit)) ⌝ }
 {
     let mut i = 0;
     while i < n {
@@ -479,7 +485,7 @@ fn put_play_list(out: &mut [u8], at: usize, list: [Play; 64], n: usize)
 // Puts a `plst`.
 pub fn put_plays(out: &mut [u8], at: usize, playlist: Playlist)
     requires { ⌜ at + length (playsBytes playlist) ≤ length (now out) ⌝ }
-    ensures { λ _. ⌜ Put (now (out .entry)) at (playsBytes playlist) (now (out .exit)) ⌝ }
+    ensures buffer { λ _. ⌜ Put (now (out .entry)) at (playsBytes playlist) (now (out .exit)) ⌝ }
 {
     let n = held_of(playlist.count);
     let list = playlist.list;

@@ -47,7 +47,7 @@ pub enum Verdict {
 
 // The number of a refusal.
 pub fn number(refusal: Refusal) -> u8
-    ensures { λ r. ⌜ r ≡ numberOf refusal ⌝ }
+    ensures answer { λ r. ⌜ r ≡ numberOf refusal ⌝ }
 {
     match refusal {
         Refusal::LengthOutOfRange => 1,

@@ -11,10 +11,10 @@ use crate::encoding::asked_in;
 use crate::encoding::encode_asked;
 use crate::entries::label;
 use crate::lent::count;
-use ima::Coded;
-use ima::Encoded;
+use decode::Decoded;
+use encode::Coded;
+use encode::Encoded;
 use rules::Record;
-use sound::Decoded;
 use units::Frames;
 use units::Refusal;
 use writer::Written;
@@ -33,7 +33,7 @@ fn heard_lines(frames: Frames, heard: &[i16]) {
 
 // Decodes a file to a lent sound.
 fn decode(file: &[u8], heard: &mut [i16]) {
-    match sound::decode(file, heard) {
+    match decode::decode(file, heard) {
         Decoded::Frames(frames) => heard_lines(frames, heard),
         Decoded::Refused(refusal) => refused(b"decode ", refusal),
     }

@@ -8,7 +8,7 @@ use crate::entries::label;
 use crate::lent::count;
 use crate::lent::mixed_line;
 use crate::lent::sound_line;
-use sound::Decoded;
+use decode::Decoded;
 
 // The answer of decoding.
 fn answer_line(answer: Decoded) {
@@ -40,11 +40,11 @@ fn lent_line(out: &[i16]) {
 // Decodes a file, or a block of it, to a lent sound.
 fn decode(file: &[u8], kind: u16, block: u32, out: &mut [i16]) {
     if kind == 0 {
-        answer_line(sound::decode(file, out));
+        answer_line(decode::decode(file, out));
         lent_line(out);
         return;
     }
-    answer_line(sound::decode_block(file, block, out));
+    answer_line(decode::decode_block(file, block, out));
     lent_line(out);
 }
 

@@ -7,8 +7,8 @@ use crate::copying::copy_lines;
 use crate::entries::label;
 use crate::lent::bytes_line;
 use crate::lent::count;
-use ima::Coded;
-use ima::Encoded;
+use encode::Coded;
+use encode::Encoded;
 
 // What an entry asks for. A copy goes on with the blocks.
 pub struct Asked {
@@ -43,7 +43,7 @@ fn buffer_line(out: &[u8]) {
 
 // Codes a sound to a lent buffer.
 fn encode(sound: &[i16], asked: Asked, out: &mut [u8]) {
-    let answer = ima::encode(sound, asked.channels, asked.align, out);
+    let answer = encode::encode(sound, asked.channels, asked.align, out);
     if asked.copied {
         copy_lines(answer, asked, sound.len(), out);
         return;

@@ -6,7 +6,7 @@ ghost use lib.ListN.{length};
 
 // What follows the first n bytes.
 pub fn past(bytes: &[u8], n: usize) -> &[u8]
-    ensures { λ r. ⌜ length (now r) ≡ length (now (bytes .entry)) - n ⌝ }
+    ensures long { λ r. ⌜ length (now r) ≡ length (now (bytes .entry)) - n ⌝ }
 {
     if bytes.len() <= n {
         return &bytes[..0];
@@ -16,7 +16,7 @@ pub fn past(bytes: &[u8], n: usize) -> &[u8]
 
 // Prints the label that follows a head, on a line of its own, and answers where it ends.
 pub fn label(table: &[u8], head: u16) -> usize
-    ensures { λ r. ⌜ r ≤ 131070 ⌝ }
+    ensures bound { λ r. ⌜ r ≤ 131070 ⌝ }
 {
     let from = head as usize;
     let size = little::u16_or_zero(table, 0) as usize;

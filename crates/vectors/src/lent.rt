@@ -8,7 +8,8 @@ ghost use lib.ListN.{length, take};
 
 // So many samples of a sound, or as many as there are. The `ensures` is what lending that part of it asks for.
 pub fn count(n: usize, sound: &[i16]) -> usize
-    ensures { λ r. ⌜ (r ≤ length (now (sound .entry))) × (r ≡ length (take r (now (sound .entry)))) ⌝ }
+    ensures bound { λ r. ⌜ r ≤ length (now (sound .entry)) ⌝ }
+    ensures answer { λ r. ⌜ r ≡ length (take r (now (sound .entry))) ⌝ }
 {
     if sound.len() < n {
         return sound.len();

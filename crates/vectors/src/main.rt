@@ -20,7 +20,7 @@ ghost use lib.ListN.{length};
 
 // Room for the input. The `ensures` gives its length alone, so that no proof counts its bytes.
 fn room() -> [u8; 524288]
-    ensures { λ r. ⌜ 524288 ≡ length r ⌝ }
+    ensures long { λ r. ⌜ 524288 ≡ length r ⌝ }
 {
     [0; 524288]
 }

@@ -55,20 +55,20 @@ pub use writer::write;
 // ---- decoding to 16-bit samples, the channels in turn
 
 // The frames that were put out, or why there are none.
-pub use sound::Decoded;
+pub use decode::Decoded;
 // Decodes a whole file: the reader's refusals, 14, 15.
-pub use sound::decode;
+pub use decode::decode;
 // Decodes one ADPCM block of a file, with its fill: the reader's refusals, 20, 14, 15.
-pub use sound::decode_block;
+pub use decode::decode_block;
 
 // ---- encoding to IMA blocks, and the approval copy
 
 // The blocks, or why there are none.
-pub use ima::Encoded;
+pub use encode::Encoded;
 // How many bytes the blocks have, and the chased samples of each channel.
-pub use ima::Coded;
+pub use encode::Coded;
 // Encodes a sound: 1, 9, 10, 14.
-pub use ima::encode;
+pub use encode::encode;
 // The record of an approval copy, a file of such blocks.
 pub use approval::record_of;
 

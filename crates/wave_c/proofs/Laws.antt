@@ -1,4 +1,4 @@
--- Laws of the C interface, in the words of the code: answers as numbers, room, and words that are fine. Assumes nothing.
+-- Laws of the C interface, in the words of the code: answers as numbers, room, and words that are valid. Assumes nothing.
 use mathlib.Core.Path.{_≡_, refl, sym, ap, _∙_}
 use mathlib.Core.Bool.{Bool, true, false, not, cond}
 use mathlib.Core.List.{List, [], _∷_}
@@ -28,20 +28,20 @@ use Rattle.writer.specs.declared.Written.{Written}
 use Rattle.writer.specs.declared.Written.the-variants as written
 use Rattle.writer.specs.File.{andThen, fileOf, writing}
 use Rattle.writer.specs.File as writes
-use Rattle.sound.specs.declared.Decoded.{Decoded}
-use Rattle.sound.specs.declared.Decoded.the-variants as decoded
-use Rattle.sound.specs.Decoding as decodes
-use Rattle.ima.specs.declared.Coded.{Coded}
-use Rattle.ima.specs.declared.Encoded.{Encoded}
-use Rattle.ima.specs.declared.Encoded.the-variants as encoded
-use Rattle.ima.specs.Answer as encodes
+use Rattle.decode.specs.declared.Decoded.{Decoded}
+use Rattle.decode.specs.declared.Decoded.the-variants as decoded
+use Rattle.decode.specs.Decoding as decodes
+use Rattle.encode.specs.declared.Coded.{Coded}
+use Rattle.encode.specs.declared.Encoded.{Encoded}
+use Rattle.encode.specs.declared.Encoded.the-variants as encoded
+use Rattle.encode.specs.Answer as encodes
 use Rattle.side.specs.declared.Added.{Added}
 use Rattle.side.specs.declared.Added.the-variants as added
 use Rattle.side.specs.Adding as adds
 use Rattle.words.specs.Words.{recordWords, fieldsFit, recordFrom}
 use Rattle.wave_c.specs.declared.Answer.{Answer}
 use Rattle.wave_c.specs.declared.CodedAnswer.{CodedAnswer}
-use Rattle.wave_c.specs.Interface.{refusedBy, done, answerBy, ofWritten, ofDecoded, ofAdded, ofEncoded, enough, readVerdict, keptBy, startOf, wordsFine, wordsWriting}
+use Rattle.wave_c.specs.Interface.{refusedBy, done, answerBy, ofWritten, ofDecoded, ofAdded, ofEncoded, enough, readVerdict, keptBy, startOf, wordsValid, wordsWriting}
 
 -- ---- answers as numbers
 module _ (r : Refusal) {k : ℕ} (e : k ≡ numberOf r) where
@@ -192,17 +192,17 @@ pub ruleset reading-first = (number-refused, answer-refused, kept-refused, numbe
 
 -- ---- words for a record
 module _ (w : List ℕ) where
-  pub words-short : length w < 393 → false ≡ wordsFine w
-  unfolding wordsFine
+  pub words-short : length w < 393 → false ≡ wordsValid w
+  unfolding wordsValid
   words-short h = simp (lt-leb 393 (length w) h)
 
-  pub words-asked : {b : Bool} → 393 ≤ length w → b ≡ fieldsFit w → b ≡ wordsFine w
-  unfolding wordsFine
+  pub words-asked : {b : Bool} → 393 ≤ length w → b ≡ fieldsFit w → b ≡ wordsValid w
+  unfolding wordsValid
   words-asked h e = simp (le-leb 393 (length w) h, e)
 
-  module _ {b : Bool} (e : b ≡ wordsFine w) (f : not b ≡ false) where
+  module _ {b : Bool} (e : b ≡ wordsValid w) (f : not b ≡ false) where
     both : (leb 393 (length w) ≡ true) × (fieldsFit w ≡ true)
-    unfolding wordsFine
+    unfolding wordsValid
     both = and-both (leb 393 (length w)) (fieldsFit w) (sym e ∙ not-false b f)
 
     pub words-enough : 393 ≤ length w
@@ -211,7 +211,7 @@ module _ (w : List ℕ) where
     pub words-fit : fieldsFit w ≡ true
     words-fit = both .1
 
-  module _ (s : List ℕ) (room : ℕ) {b : Bool} (e : b ≡ wordsFine w) where
+  module _ (s : List ℕ) (room : ℕ) {b : Bool} (e : b ≡ wordsValid w) where
     module _ (f : not b ≡ true) where
       unfit : wordsWriting w s room ≡ written.Refused FormatWrong
       unfolding wordsWriting

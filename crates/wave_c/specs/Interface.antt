@@ -16,10 +16,10 @@ use Rattle.reader.specs.Content.{reading}
 use Rattle.writer.specs.declared.Written.{Written}
 use Rattle.writer.specs.declared.Written.the-variants as written
 use Rattle.writer.specs.File.{andThen, writing}
-use Rattle.sound.specs.declared.Decoded.{Decoded}
-use Rattle.sound.specs.declared.Decoded.the-variants as decoded
-use Rattle.ima.specs.declared.Encoded.{Encoded}
-use Rattle.ima.specs.declared.Encoded.the-variants as encoded
+use Rattle.decode.specs.declared.Decoded.{Decoded}
+use Rattle.decode.specs.declared.Decoded.the-variants as decoded
+use Rattle.encode.specs.declared.Encoded.{Encoded}
+use Rattle.encode.specs.declared.Encoded.the-variants as encoded
 use Rattle.side.specs.declared.Added.{Added}
 use Rattle.side.specs.declared.Added.the-variants as added
 use Rattle.words.specs.Words.{fieldsFit, recordFrom}
@@ -77,9 +77,9 @@ startOf Missing = 0
 -- ---- writing
 
 -- 393 words at least, each of which fits its field
-unfoldable pub wordsFine : List ℕ → Bool
-wordsFine w = leb 393 (length w) && fieldsFit w
+unfoldable pub wordsValid : List ℕ → Bool
+wordsValid w = leb 393 (length w) && fieldsFit w
 
 -- 9 for words that are not; else the record that they say is written
 unfoldable pub wordsWriting : List ℕ → List ℕ → ℕ → Written
-wordsWriting w s room = cond (wordsFine w) (writing (recordFrom w) s room) (written.Refused FormatWrong)
+wordsWriting w s room = cond (wordsValid w) (writing (recordFrom w) s room) (written.Refused FormatWrong)

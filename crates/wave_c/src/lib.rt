@@ -18,15 +18,15 @@ ghost use Rattle.reader.specs.Content.{reading, soundSpot, soundIn};
 ghost use Rattle.riff.specs.Walk.{partOf};
 ghost use Rattle.writer.specs.File.{fileOf, writing};
 ghost use Rattle.writer.specs.File as writes;
-ghost use Rattle.ima.specs.Encoding.{encodedBytes};
-ghost use Rattle.ima.specs.Answer.{encoding};
-ghost use Rattle.ima.specs.Answer as encodes;
-ghost use Rattle.sound.specs.Decoding.{decoding, blockDecoding, fileSound, fileBlock};
-ghost use Rattle.sound.specs.Decoding as decodes;
+ghost use Rattle.encode.specs.Encoding.{encodedBytes};
+ghost use Rattle.encode.specs.Answer.{encoding};
+ghost use Rattle.encode.specs.Answer as encodes;
+ghost use Rattle.decode.specs.Decoding.{decoding, blockDecoding, fileSound, fileBlock};
+ghost use Rattle.decode.specs.Decoding as decodes;
 ghost use Rattle.side.specs.Adding.{adding, newFile, emptySide};
 ghost use Rattle.side.specs.Adding as adds;
 ghost use Rattle.words.specs.Words.{recordWords, recordFrom};
-ghost use Rattle.wave_c.specs.Interface.{refusedBy, done, ofWritten, ofDecoded, ofEncoded, ofAdded, answerBy, keptBy, enough, readVerdict, startOf, wordsFine, wordsWriting};
+ghost use Rattle.wave_c.specs.Interface.{refusedBy, done, ofWritten, ofDecoded, ofEncoded, ofAdded, answerBy, keptBy, enough, readVerdict, startOf, wordsValid, wordsWriting};
 
 // How many bytes or frames there are, or the number of the refusal.
 #[repr(C)]
@@ -48,14 +48,14 @@ pub struct CodedAnswer {
 
 // A refusal, by its number.
 fn number_of(refusal: Refusal) -> u32
-    ensures { λ r. ⌜ r ≡ numberOf refusal ⌝ }
+    ensures answer { λ r. ⌜ r ≡ numberOf refusal ⌝ }
 {
     units::number(refusal) as u32
 }
 
 // The answer that is a refusal.
 fn turned_away(refusal: Refusal) -> Answer
-    ensures { λ r. ⌜ r ≡ refusedBy refusal ⌝ }
+    ensures answer { λ r. ⌜ r ≡ refusedBy refusal ⌝ }
 {
     Answer {
         refusal: number_of(refusal),
@@ -65,14 +65,14 @@ fn turned_away(refusal: Refusal) -> Answer
 
 // The answer that is a success.
 fn told(n: usize) -> Answer
-    ensures { λ r. ⌜ r ≡ done n ⌝ }
+    ensures answer { λ r. ⌜ r ≡ done n ⌝ }
 {
     Answer { refusal: 0, n: n }
 }
 
 // What writing answers.
 fn of_written(answer: Written) -> Answer
-    ensures { λ r. ⌜ r ≡ ofWritten answer ⌝ }
+    ensures answer { λ r. ⌜ r ≡ ofWritten answer ⌝ }
 {
     match answer {
         Written::Bytes(size) => told(size.0),
@@ -82,7 +82,7 @@ fn of_written(answer: Written) -> Answer
 
 // What decoding answers.
 fn of_decoded(answer: Decoded) -> Answer
-    ensures { λ r. ⌜ r ≡ ofDecoded answer ⌝ }
+    ensures answer { λ r. ⌜ r ≡ ofDecoded answer ⌝ }
 {
     match answer {
         Decoded::Frames(frames) => told(frames.0 as usize),
@@ -92,7 +92,7 @@ fn of_decoded(answer: Decoded) -> Answer
 
 // What adding answers.
 fn of_added(answer: Added) -> Answer
-    ensures { λ r. ⌜ r ≡ ofAdded answer ⌝ }
+    ensures answer { λ r. ⌜ r ≡ ofAdded answer ⌝ }
 {
     match answer {
         Added::Bytes(size) => told(size.0),
@@ -102,7 +102,7 @@ fn of_added(answer: Added) -> Answer
 
 // What encoding answers.
 fn of_encoded(answer: Encoded) -> CodedAnswer
-    ensures { λ r. ⌜ r ≡ ofEncoded answer ⌝ }
+    ensures answer { λ r. ⌜ r ≡ ofEncoded answer ⌝ }
 {
     match answer {
         Encoded::Blocks(coded) => CodedAnswer {
@@ -124,8 +124,8 @@ fn of_encoded(answer: Encoded) -> CodedAnswer
 
 // Puts the record of a file that was taken, where there is room for its words.
 fn put_record(made: Record, out: &mut [u32]) -> u32
-    ensures { λ r. ⌜ (r ≡ verdictNumber (enough 393 (length (now (out .entry)))))
-        × (now (out .exit) ≡ keptBy (enough 393 (length (now (out .entry)))) (recordWords made) (now (out .entry))) ⌝ }
+    ensures answer { λ r. ⌜ r ≡ verdictNumber (enough 393 (length (now (out .entry)))) ⌝ }
+    ensures buffer { λ r. ⌜ now (out .exit) ≡ keptBy (enough 393 (length (now (out .entry)))) (recordWords made) (now (out .entry)) ⌝ }
 {
     if out.len() < words::WORDS {
         return number_of(Refusal::OutputTooSmall);
@@ -137,8 +137,8 @@ fn put_record(made: Record, out: &mut [u32]) -> u32
 // The record of a file, as words from the start of a lent buffer.
 #[no_mangle]
 pub extern "C" fn tronalhet_read(file: &[u8], out: &mut [u32]) -> u32
-    ensures { λ r. ⌜ (r ≡ verdictNumber (readVerdict 393 (now (file .entry)) (length (now (out .entry)))))
-        × (now (out .exit) ≡ keptBy (readVerdict 393 (now (file .entry)) (length (now (out .entry)))) (recordWords (reading (now (file .entry)) .made)) (now (out .entry))) ⌝ }
+    ensures answer { λ r. ⌜ r ≡ verdictNumber (readVerdict 393 (now (file .entry)) (length (now (out .entry)))) ⌝ }
+    ensures buffer { λ r. ⌜ now (out .exit) ≡ keptBy (readVerdict 393 (now (file .entry)) (length (now (out .entry)))) (recordWords (reading (now (file .entry)) .made)) (now (out .entry)) ⌝ }
 {
     let reading = wave::read(file);
     let verdict = reading.verdict;
@@ -151,7 +151,7 @@ pub extern "C" fn tronalhet_read(file: &[u8], out: &mut [u32]) -> u32
 
 // Where a chunk's data start; of a missing chunk, nowhere.
 fn start_of(spot: Spot) -> usize
-    ensures { λ r. ⌜ r ≡ startOf spot ⌝ }
+    ensures answer { λ r. ⌜ r ≡ startOf spot ⌝ }
 {
     match spot {
         Spot::At(place) => place.start.0,
@@ -161,8 +161,8 @@ fn start_of(spot: Spot) -> usize
 
 // Puts where the sound of a file that was taken starts, where there is room for it.
 fn put_start(file: &[u8], spot: Spot, out: &mut [usize]) -> Answer
-    ensures { λ r. ⌜ (r ≡ answerBy (enough 1 (length (now (out .entry)))) (length (partOf (now (file .entry)) spot [])))
-        × (now (out .exit) ≡ keptBy (enough 1 (length (now (out .entry)))) (startOf spot ∷ []) (now (out .entry))) ⌝ }
+    ensures answer { λ r. ⌜ r ≡ answerBy (enough 1 (length (now (out .entry)))) (length (partOf (now (file .entry)) spot [])) ⌝ }
+    ensures buffer { λ r. ⌜ now (out .exit) ≡ keptBy (enough 1 (length (now (out .entry)))) (startOf spot ∷ []) (now (out .entry)) ⌝ }
 {
     if out.len() < 1 {
         return turned_away(Refusal::OutputTooSmall);
@@ -175,8 +175,8 @@ fn put_start(file: &[u8], spot: Spot, out: &mut [usize]) -> Answer
 // Where the sound of a file starts, put to a lent buffer, and how many bytes it has.
 #[no_mangle]
 pub extern "C" fn tronalhet_sound(file: &[u8], out: &mut [usize]) -> Answer
-    ensures { λ r. ⌜ (r ≡ answerBy (readVerdict 1 (now (file .entry)) (length (now (out .entry)))) (length (soundIn (now (file .entry)))))
-        × (now (out .exit) ≡ keptBy (readVerdict 1 (now (file .entry)) (length (now (out .entry)))) (startOf (soundSpot (now (file .entry))) ∷ []) (now (out .entry))) ⌝ }
+    ensures answer { λ r. ⌜ r ≡ answerBy (readVerdict 1 (now (file .entry)) (length (now (out .entry)))) (length (soundIn (now (file .entry)))) ⌝ }
+    ensures buffer { λ r. ⌜ now (out .exit) ≡ keptBy (readVerdict 1 (now (file .entry)) (length (now (out .entry)))) (startOf (soundSpot (now (file .entry))) ∷ []) (now (out .entry)) ⌝ }
 {
     let opened = reader::open(file);
     let reading = opened.answer;
@@ -191,8 +191,8 @@ pub extern "C" fn tronalhet_sound(file: &[u8], out: &mut [usize]) -> Answer
 // ---- writing
 
 // Whether there are words enough for a record, and each fits its field.
-fn words_fine(given: &[u32]) -> bool
-    ensures { λ r. ⌜ r ≡ wordsFine (now (given .entry)) ⌝ }
+fn words_valid(given: &[u32]) -> bool
+    ensures answer { λ r. ⌜ r ≡ wordsValid (now (given .entry)) ⌝ }
 {
     if given.len() < words::WORDS {
         return false;
@@ -203,11 +203,11 @@ fn words_fine(given: &[u32]) -> bool
 // Writes a file of a record, which comes as words, and its sound.
 #[no_mangle]
 pub extern "C" fn tronalhet_write(given: &[u32], sound: &[u8], out: &mut [u8]) -> Answer
-    ensures { λ r. ⌜ (r ≡ ofWritten (wordsWriting (now (given .entry)) (now (sound .entry)) (length (now (out .entry)))))
-        × (now (out .exit) ≡ writes.holding (wordsWriting (now (given .entry)) (now (sound .entry)) (length (now (out .entry)))) (fileOf (recordFrom (now (given .entry))) (now (sound .entry))) (now (out .entry))) ⌝ }
+    ensures answer { λ r. ⌜ r ≡ ofWritten (wordsWriting (now (given .entry)) (now (sound .entry)) (length (now (out .entry)))) ⌝ }
+    ensures buffer { λ r. ⌜ now (out .exit) ≡ writes.holding (wordsWriting (now (given .entry)) (now (sound .entry)) (length (now (out .entry)))) (fileOf (recordFrom (now (given .entry))) (now (sound .entry))) (now (out .entry)) ⌝ }
 {
-    let fine = words_fine(given);
-    if !fine {
+    let valid = words_valid(given);
+    if !valid {
         return turned_away(Refusal::FormatWrong);
     }
     let made = words::record_from(given);
@@ -220,8 +220,8 @@ pub extern "C" fn tronalhet_write(given: &[u32], sound: &[u8], out: &mut [u8]) -
 // Decodes a whole file.
 #[no_mangle]
 pub extern "C" fn tronalhet_decode(file: &[u8], out: &mut [i16]) -> Answer
-    ensures { λ r. ⌜ (r ≡ ofDecoded (decoding (now (file .entry)) (length (now (out .entry)))))
-        × (now (out .exit) ≡ decodes.holding (decoding (now (file .entry)) (length (now (out .entry)))) (fileSound (now (file .entry))) (now (out .entry))) ⌝ }
+    ensures answer { λ r. ⌜ r ≡ ofDecoded (decoding (now (file .entry)) (length (now (out .entry)))) ⌝ }
+    ensures buffer { λ r. ⌜ now (out .exit) ≡ decodes.holding (decoding (now (file .entry)) (length (now (out .entry)))) (fileSound (now (file .entry))) (now (out .entry)) ⌝ }
 {
     let answer = wave::decode(file, out);
     of_decoded(answer)
@@ -230,8 +230,8 @@ pub extern "C" fn tronalhet_decode(file: &[u8], out: &mut [i16]) -> Answer
 // Decodes a block of an ADPCM file, with its fill.
 #[no_mangle]
 pub extern "C" fn tronalhet_decode_block(file: &[u8], block: u32, out: &mut [i16]) -> Answer
-    ensures { λ r. ⌜ (r ≡ ofDecoded (blockDecoding (now (file .entry)) block (length (now (out .entry)))))
-        × (now (out .exit) ≡ decodes.holding (blockDecoding (now (file .entry)) block (length (now (out .entry)))) (fileBlock (now (file .entry)) block) (now (out .entry))) ⌝ }
+    ensures answer { λ r. ⌜ r ≡ ofDecoded (blockDecoding (now (file .entry)) block (length (now (out .entry)))) ⌝ }
+    ensures buffer { λ r. ⌜ now (out .exit) ≡ decodes.holding (blockDecoding (now (file .entry)) block (length (now (out .entry)))) (fileBlock (now (file .entry)) block) (now (out .entry)) ⌝ }
 {
     let answer = wave::decode_block(file, block, out);
     of_decoded(answer)
@@ -245,8 +245,8 @@ pub extern "C" fn tronalhet_encode(
     align: u16,
     out: &mut [u8],
 ) -> CodedAnswer
-    ensures { λ r. ⌜ (r ≡ ofEncoded (encoding (now (sound .entry)) channels align (length (now (out .entry)))))
-        × (now (out .exit) ≡ encodes.holding (encoding (now (sound .entry)) channels align (length (now (out .entry)))) (encodedBytes channels align (now (sound .entry))) (now (out .entry))) ⌝ }
+    ensures answer { λ r. ⌜ r ≡ ofEncoded (encoding (now (sound .entry)) channels align (length (now (out .entry)))) ⌝ }
+    ensures buffer { λ r. ⌜ now (out .exit) ≡ encodes.holding (encoding (now (sound .entry)) channels align (length (now (out .entry)))) (encodedBytes channels align (now (sound .entry))) (now (out .entry)) ⌝ }
 {
     let answer = wave::encode(sound, channels, align, out);
     of_encoded(answer)
@@ -257,8 +257,8 @@ pub extern "C" fn tronalhet_encode(
 // Writes a side without songs.
 #[no_mangle]
 pub extern "C" fn tronalhet_empty(channels: u16, rate: u32, out: &mut [u8]) -> Answer
-    ensures { λ r. ⌜ (r ≡ ofWritten (writing (emptySide channels rate) [] (length (now (out .entry)))))
-        × (now (out .exit) ≡ writes.holding (writing (emptySide channels rate) [] (length (now (out .entry)))) (fileOf (emptySide channels rate) []) (now (out .entry))) ⌝ }
+    ensures answer { λ r. ⌜ r ≡ ofWritten (writing (emptySide channels rate) [] (length (now (out .entry)))) ⌝ }
+    ensures buffer { λ r. ⌜ now (out .exit) ≡ writes.holding (writing (emptySide channels rate) [] (length (now (out .entry)))) (fileOf (emptySide channels rate) []) (now (out .entry)) ⌝ }
 {
     let answer = wave::empty(channels, rate, out);
     of_written(answer)
@@ -273,8 +273,8 @@ pub extern "C" fn tronalhet_add(
     limit: u32,
     out: &mut [u8],
 ) -> Answer
-    ensures { λ r. ⌜ (r ≡ ofAdded (adding (now (side .entry)) (now (song .entry)) (record { 0 = number }) (record { 0 = limit }) (length (now (out .entry)))))
-        × (now (out .exit) ≡ adds.holding (adding (now (side .entry)) (now (song .entry)) (record { 0 = number }) (record { 0 = limit }) (length (now (out .entry)))) (newFile (now (side .entry)) (now (song .entry)) (record { 0 = number })) (now (out .entry))) ⌝ }
+    ensures answer { λ r. ⌜ r ≡ ofAdded (adding (now (side .entry)) (now (song .entry)) (record { 0 = number }) (record { 0 = limit }) (length (now (out .entry)))) ⌝ }
+    ensures buffer { λ r. ⌜ now (out .exit) ≡ adds.holding (adding (now (side .entry)) (now (song .entry)) (record { 0 = number }) (record { 0 = limit }) (length (now (out .entry)))) (newFile (now (side .entry)) (now (song .entry)) (record { 0 = number })) (now (out .entry)) ⌝ }
 {
     let answer = wave::add(side, song, Donation(number), Frames(limit), out);
     of_added(answer)

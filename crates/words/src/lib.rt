@@ -25,7 +25,7 @@ pub const WORDS: usize = 393;
 
 // The words before the tables.
 fn head_words(made: Record) -> [u32; 9]
-    ensures { λ r. ⌜ r ≡ headWords made ⌝ }
+    ensures answer { λ r. ⌜ r ≡ headWords made ⌝ }
 {
     let format = made.format;
     let cues = made.cues;
@@ -46,7 +46,7 @@ fn head_words(made: Record) -> [u32; 9]
 // Puts words at a place.
 fn put_words(out: &mut [u32], at: usize, words: &[u32])
     requires { ⌜ at + length (now words) ≤ length (now out) ⌝ }
-    ensures { λ _. ⌜ Put (now (out .entry)) at (now (words .entry)) (now (out .exit)) ⌝ }
+    ensures buffer { λ _. ⌜ Put (now (out .entry)) at (now (words .entry)) (now (out .exit)) ⌝ }
 {
     let mut i = 0;
     while i < words.len() {
@@ -58,7 +58,7 @@ fn put_words(out: &mut [u32], at: usize, words: &[u32])
 // Puts a cue.
 fn put_cue(out: &mut [u32], at: usize, cue: Cue)
     requires { ⌜ at + 3 ≤ length (now out) ⌝ }
-    ensures { λ _. ⌜ Put (now (out .entry)) at (cueWords cue) (now (out .exit)) ⌝ }
+    ensures buffer { λ _. ⌜ Put (now (out .entry)) at (cueWords cue) (now (out .exit)) ⌝ }
 {
     let words = [cue.name.0, cue.position.0, cue.place.0];
     put_words(out, at, &words);
@@ -67,7 +67,7 @@ fn put_cue(out: &mut [u32], at: usize, cue: Cue)
 // Puts a playlist entry.
 fn put_play(out: &mut [u32], at: usize, play: Play)
     requires { ⌜ at + 3 ≤ length (now out) ⌝ }
-    ensures { λ _. ⌜ Put (now (out .entry)) at (playWords play) (now (out .exit)) ⌝ }
+    ensures buffer { λ _. ⌜ Put (now (out .entry)) at (playWords play) (now (out .exit)) ⌝ }
 {
     let words = [play.name.0, play.length.0, play.times];
     put_words(out, at, &words);
@@ -76,7 +76,7 @@ fn put_play(out: &mut [u32], at: usize, play: Play)
 // Puts 64 cues, one behind the other.
 fn put_cues(out: &mut [u32], at: usize, list: [Cue; 64])
     requires { ⌜ at + 3 * 64 ≤ length (now out) ⌝ }
-    ensures { λ _. ⌜ Put (now (out .entry)) at (entryBytes cueWords list) (now (out .exit)) ⌝ }
+    ensures buffer { λ _. ⌜ Put (now (out .entry)) at (entryBytes cueWords list) (now (out .exit)) ⌝ }
 {
     let mut i = 0;
     while i < 64 {
@@ -89,7 +89,7 @@ fn put_cues(out: &mut [u32], at: usize, list: [Cue; 64])
 // Puts 64 playlist entries, one behind the other.
 fn put_plays(out: &mut [u32], at: usize, list: [Play; 64])
     requires { ⌜ at + 3 * 64 ≤ length (now out) ⌝ }
-    ensures { λ _. ⌜ Put (now (out .entry)) at (entryBytes playWords list) (now (out .exit)) ⌝ }
+    ensures buffer { λ _. ⌜ Put (now (out .entry)) at (entryBytes playWords list) (now (out .exit)) ⌝ }
 {
     let mut i = 0;
     while i < 64 {
@@ -102,7 +102,7 @@ fn put_plays(out: &mut [u32], at: usize, list: [Play; 64])
 // Puts the two tables, behind the words before them.
 fn put_tables(out: &mut [u32], cues: [Cue; 64], plays: [Play; 64])
     requires { ⌜ 393 ≤ length (now out) ⌝ }
-    ensures { λ _. ⌜ Put (now (out .entry)) 9 (entryBytes cueWords cues ++ entryBytes playWords plays) (now (out .exit)) ⌝ }
+    ensures buffer { λ _. ⌜ Put (now (out .entry)) 9 (entryBytes cueWords cues ++ entryBytes playWords plays) (now (out .exit)) ⌝ }
 {
     put_cues(out, 9, cues);
     put_plays(out, 201, plays);
@@ -111,7 +111,7 @@ fn put_tables(out: &mut [u32], cues: [Cue; 64], plays: [Play; 64])
 // Puts a record from the start of a lent buffer.
 pub fn put_record(out: &mut [u32], made: Record)
     requires { ⌜ 393 ≤ length (now out) ⌝ }
-    ensures { λ _. ⌜ now (out .exit) ≡ front (recordWords made) (now (out .entry)) ⌝ }
+    ensures buffer { λ _. ⌜ now (out .exit) ≡ front (recordWords made) (now (out .entry)) ⌝ }
 {
     let cues = made.cues;
     let playlist = made.playlist;
@@ -127,7 +127,7 @@ pub fn put_record(out: &mut [u32], made: Record)
 // Whether every word of a field of 16 bits fits it.
 pub fn fields_fit(words: &[u32]) -> bool
     requires { ⌜ 393 ≤ length (now words) ⌝ }
-    ensures { λ r. ⌜ r ≡ fieldsFit (now (words .entry)) ⌝ }
+    ensures answer { λ r. ⌜ r ≡ fieldsFit (now (words .entry)) ⌝ }
 {
     let fields = [words[0], words[1], words[3], words[4], words[5]];
     lists::all_below(&fields, 65536)
@@ -136,7 +136,7 @@ pub fn fields_fit(words: &[u32]) -> bool
 // A number that fits 16 bits.
 fn narrow(x: u32) -> u16
     requires { ⌜ x < 65536 ⌝ }
-    ensures { λ r. ⌜ r ≡ x ⌝ }
+    ensures answer { λ r. ⌜ r ≡ x ⌝ }
 {
     x as u16
 }
@@ -144,7 +144,7 @@ fn narrow(x: u32) -> u16
 // The format of a record.
 fn format_from(words: &[u32]) -> Format
     requires { ⌜ (393 ≤ length (now words)) × (fieldsFit (now words) ≡ true) ⌝ }
-    ensures { λ r. ⌜ r ≡ formatFrom (now (words .entry)) ⌝ }
+    ensures answer { λ r. ⌜ r ≡ formatFrom (now (words .entry)) ⌝ }
 {
     Format {
         tag: narrow(words[0]),
@@ -159,7 +159,7 @@ fn format_from(words: &[u32]) -> Format
 // The cue at a place.
 fn cue_from(words: &[u32], at: usize) -> Cue
     requires { ⌜ at + 3 ≤ length (now words) ⌝ }
-    ensures { λ r. ⌜ r ≡ cueFrom (now (words .entry)) at ⌝ }
+    ensures answer { λ r. ⌜ r ≡ cueFrom (now (words .entry)) at ⌝ }
 {
     Cue {
         name: Donation(words[at]),
@@ -171,7 +171,7 @@ fn cue_from(words: &[u32], at: usize) -> Cue
 // The playlist entry at a place.
 fn play_from(words: &[u32], at: usize) -> Play
     requires { ⌜ at + 3 ≤ length (now words) ⌝ }
-    ensures { λ r. ⌜ r ≡ playFrom (now (words .entry)) at ⌝ }
+    ensures answer { λ r. ⌜ r ≡ playFrom (now (words .entry)) at ⌝ }
 {
     Play {
         name: Donation(words[at]),
@@ -183,7 +183,7 @@ fn play_from(words: &[u32], at: usize) -> Play
 // The 64 cues of a record.
 fn cues_from(words: &[u32]) -> [Cue; 64]
     requires { ⌜ 393 ≤ length (now words) ⌝ }
-    ensures { λ r. ⌜ r ≡ cuesFrom (now (words .entry)) 64 ⌝ }
+    ensures answer { λ r. ⌜ r ≡ cuesFrom (now (words .entry)) 64 ⌝ }
 {
     let none = tables::no_cues();
     let mut list = none.list;
@@ -198,7 +198,7 @@ fn cues_from(words: &[u32]) -> [Cue; 64]
 // The 64 playlist entries of a record.
 fn plays_from(words: &[u32]) -> [Play; 64]
     requires { ⌜ 393 ≤ length (now words) ⌝ }
-    ensures { λ r. ⌜ r ≡ playsFrom (now (words .entry)) 64 ⌝ }
+    ensures answer { λ r. ⌜ r ≡ playsFrom (now (words .entry)) 64 ⌝ }
 {
     let none = tables::no_plays();
     let mut list = none.list;
@@ -213,7 +213,7 @@ fn plays_from(words: &[u32]) -> [Play; 64]
 // The record that words say.
 pub fn record_from(words: &[u32]) -> Record
     requires { ⌜ (393 ≤ length (now words)) × (fieldsFit (now words) ≡ true) ⌝ }
-    ensures { λ r. ⌜ r ≡ recordFrom (now (words .entry)) ⌝ }
+    ensures answer { λ r. ⌜ r ≡ recordFrom (now (words .entry)) ⌝ }
 {
     let cues = Cues {
         count: words[7],

@@ -27,7 +27,7 @@ use Rattle.rules.specs.Rules.{recordOf, verdictOf, recordVerdict}
 use Rattle.rules.specs.Written.{recordKept, RecordFits, FaultSaid}
 use Rattle.rules.proofs.Taken.{record-keeps}
 use Rattle.rules.proofs.Back.{verdict-back, record-back}
-use Rattle.reader.specs.Content.{refused, taken, zeros, formatPart, soundPart, factPart, cuePart, playlistPart, recordAt, verdictAt, contentAt, contentIn, contentOf}
+use Rattle.reader.specs.Content.{refused, contentBy, zeros, formatPart, soundPart, factPart, cuePart, playlistPart, recordAt, verdictAt, contentAt, contentIn, contentOf}
 use Rattle.writer.specs.File.{sizeOf, partsOf, fileOf}
 
 -- a table is left out exactly where its bytes are those that are read in its place
@@ -91,14 +91,14 @@ module _ (m : Record) (w : List ℕ) (h : RecordFits m) (k : FaultSaid m (sizeOf
       (λ i. verdictOf (format-part i) (record { 0 = length (sound-part i) }) (factPart s d) (cue-part i) (playlist-part i) (record-at i))
       ∙ verdict-back m n h fact-part k
 
-  pub content-back : contentOf s ≡ taken (recordVerdict m n) (recordKept m) w
+  pub content-back : contentOf s ≡ contentBy (recordVerdict m n) (recordKept m) w
   unfolding contentOf contentAt
   content-back =
       ap (contentIn s) (laid .walked)
-      ∙ (λ i. cond (laid .formatThere i && laid .soundThere i) (taken (verdictAt s d) (recordAt s d) (soundPart s d)) (refused FormatOrDataMissing))
-      ∙ (λ i. taken (verdict-at i) (record-at i) (sound-part i))
+      ∙ (λ i. cond (laid .formatThere i && laid .soundThere i) (contentBy (verdictAt s d) (recordAt s d) (soundPart s d)) (refused FormatOrDataMissing))
+      ∙ (λ i. contentBy (verdict-at i) (record-at i) (sound-part i))
       ∙ by (recordVerdict m n) refl
     where
-      by : (v : Verdict) → recordVerdict m n ≡ v → taken v (recordOf (formatBytes (m .format)) n (factPart s d) (cuesBytes (m .cues)) (playsBytes (m .playlist))) w ≡ taken v (recordKept m) w
-      by Accepted e = ap (λ (x : Record). taken Accepted x w) (record-back m n h fact-part (record-keeps m n e))
+      by : (v : Verdict) → recordVerdict m n ≡ v → contentBy v (recordOf (formatBytes (m .format)) n (factPart s d) (cuesBytes (m .cues)) (playsBytes (m .playlist))) w ≡ contentBy v (recordKept m) w
+      by Accepted e = ap (λ (x : Record). contentBy Accepted x w) (record-back m n h fact-part (record-keeps m n e))
       by (Refused r) e = refl

@@ -21,24 +21,24 @@ use Rattle.rules.specs.Rules.{inOrder, recordVerdict, Writable}
 use Rattle.rules.specs.Written.{recordKept, RecordFits, FaultSaid}
 use Rattle.rules.proofs.Taken.{record-taken}
 use Rattle.rules.proofs.Back.{no-fault}
-use Rattle.reader.specs.Content.{Content, holds, taken, contentIn, contentOf, readingOf, soundOf, reading, soundIn}
+use Rattle.reader.specs.Content.{Content, holds, contentBy, contentIn, contentOf, readingOf, soundOf, reading, soundIn}
 use Rattle.reader.proofs.Kept.{held, content-taken, content-rules}
 use Rattle.reader.proofs.Again.{content-fits, content-kept-read}
 use Rattle.writer.specs.declared.Written.the-variants.{Bytes}
 use Rattle.writer.specs.declared.Written.the-variants as written
-use Rattle.writer.specs.File.{sizeOf, fileOf, andThen, beforeRoom, settled, answer, writing, writtenNumber}
-use Rattle.writer.specs.Demands.{Back, Again, fileAgain, Same, SameNumber, Numbered}
+use Rattle.writer.specs.File.{sizeOf, fileOf, andThen, beforeRoom, settled, writtenBy, writing, writtenNumber}
+use Rattle.writer.specs.Demands.{Back, Again, fileAgain, Same, SameNumber, WriteNumbered}
 use Rattle.writer.proofs.Settling.{settled-says}
 use Rattle.writer.proofs.Back.{content-back}
 use Rattle.writer.proofs.Room.{not-longer}
 
--- ---- what an answer says of the verdict
+-- ---- what an writtenBy says of the verdict
 module _ (m : Record) (w : List ℕ) (room : ℕ) where
   pub bytes-say : (n : BytePlace) → writing m w room ≡ Bytes n → settled m w room ≡ Accepted
   unfolding writing
   bytes-say n = by (settled m w room)
     where
-      by : (v : Verdict) → answer v (sizeOf (fileOf m w)) ≡ Bytes n → v ≡ Accepted
+      by : (v : Verdict) → writtenBy v (sizeOf (fileOf m w)) ≡ Bytes n → v ≡ Accepted
       by Accepted e = refl
       by (Refused r) e = let z : _≡_ {A = ℕ} 0 1 = cc in absurd (omega arith)
 
@@ -46,7 +46,7 @@ module _ (m : Record) (w : List ℕ) (room : ℕ) where
   unfolding writing
   refused-says r = by (settled m w room)
     where
-      by : (v : Verdict) → answer v (sizeOf (fileOf m w)) ≡ written.Refused r → v ≡ Refused r
+      by : (v : Verdict) → writtenBy v (sizeOf (fileOf m w)) ≡ written.Refused r → v ≡ Refused r
       by Accepted e = let z : _≡_ {A = ℕ} 0 1 = cc in absurd (omega arith)
       by (Refused q) e = cc
 
@@ -55,10 +55,10 @@ pub content-written : (m : Record) (w : List ℕ) (room : ℕ) (n : BytePlace) �
     → contentOf (fileOf m w) ≡ holds (recordKept m) w
 content-written m w room n h e =
     let s = settled-says m w room (bytes-say m w room n e) in
-    content-back m w h (no-fault (s .rules)) (s .limit) ∙ ap (λ (v : Verdict). taken v (recordKept m) w) (record-taken (s .rules))
+    content-back m w h (no-fault (s .rules)) (s .limit) ∙ ap (λ (v : Verdict). contentBy v (recordKept m) w) (record-taken (s .rules))
 
--- the length that an answer tells
-told-long : (v : Verdict) (n k : BytePlace) → answer v k ≡ Bytes n → n ≡ k
+-- the length that an writtenBy tells
+told-long : (v : Verdict) (n k : BytePlace) → writtenBy v k ≡ Bytes n → n ≡ k
 told-long Accepted n k e = cc
 told-long (Refused r) n k e = let z : _≡_ {A = ℕ} 0 1 = cc in absurd (omega arith)
 
@@ -130,7 +130,7 @@ reading-long : (s : List ℕ) → 1073741824 < length s → reading s .verdict �
 unfolding reading contentOf
 reading-long s h = ap (λ (x : Walked). readingOf (contentIn s x) .verdict) (too-long s h)
 
-taken-verdict : (v : Verdict) (m : Record) (w : List ℕ) → readingOf (taken v m w) .verdict ≡ v
+taken-verdict : (v : Verdict) (m : Record) (w : List ℕ) → readingOf (contentBy v m w) .verdict ≡ v
 taken-verdict Accepted m w = refl
 taken-verdict (Refused q) m w = refl
 
@@ -154,10 +154,10 @@ and-row : (b : Bool) (r : Refusal) (u v : Verdict) → andThen (demand b r u) v 
 and-row true r u v = refl
 and-row false r u v = refl
 
-answer-row : (v : Verdict) (n : BytePlace) → writtenNumber (answer v n) ≡ verdictNumber v
+answer-row : (v : Verdict) (n : BytePlace) → writtenNumber (writtenBy v n) ≡ verdictNumber v
 answer-row Accepted n = refl
 answer-row (Refused r) n = refl
 
-pub numbered : Numbered
-unfolding Numbered writing settled beforeRoom recordVerdict inOrder
+pub numbered : WriteNumbered
+unfolding WriteNumbered writing settled beforeRoom recordVerdict inOrder
 numbered m w room = answer-row (settled m w room) (sizeOf (fileOf m w)) ∙ simp (and-row, demand-row)

@@ -1,4 +1,4 @@
--- The whole file is put in three runs, the sound last; and the answer in the words of the code, for a sound in two parts or in one. Assumes nothing.
+-- The whole file is put in three runs, the sound last; and the writtenBy in the words of the code, for a sound in two parts or in one. Assumes nothing.
 use mathlib.Core.Path.{_≡_, refl, sym, ap, _∙_}
 use mathlib.Core.Bool.{Bool, true, false, cond}
 use mathlib.Core.List.{List, [], _∷_, _++_, append-assoc, append-nil}
@@ -18,7 +18,7 @@ use Rattle.riff.proofs.Laying.{length-file}
 use Rattle.formats.specs.Format.{formatRule}
 use Rattle.tables.specs.declared.Playlist.{Playlist}
 use Rattle.rules.specs.declared.Record.{Record}
-use Rattle.writer.specs.File.{sizeOf, factPart, cuesPart, playsPart, partsOf, fileOf, opening, tablesOf, settled, answer, writing, holding}
+use Rattle.writer.specs.File.{sizeOf, factChunk, cuesChunk, playsChunk, partsOf, fileOf, untilTables, tablesOf, settled, writtenBy, writing, holding}
 use Rattle.writer.specs.declared.Written.{Written}
 use Rattle.writer.specs.declared.Written.the-variants.{Bytes}
 use Rattle.writer.specs.declared.Written.the-variants as written
@@ -44,23 +44,23 @@ module _ (m : Record) (w : List ℕ) where
   unfolding piecesOf partsOf bodyBytes
   body-runs =
       let d : List Piece = piece code.Data w ∷ [] in
-      let l : List Piece = given code.Playlist (playsPart (m .playlist)) d in
-      let c : List Piece = given code.Cue (cuesPart (m .cues)) l in
-      let x : List ℕ = partBytes code.Cue (cuesPart (m .cues)) in
-      let y : List ℕ = partBytes code.Playlist (playsPart (m .playlist)) in
+      let l : List Piece = given code.Playlist (playsChunk (m .playlist)) d in
+      let c : List Piece = given code.Cue (cuesChunk (m .cues)) l in
+      let x : List ℕ = partBytes code.Cue (cuesChunk (m .cues)) in
+      let y : List ℕ = partBytes code.Playlist (playsChunk (m .playlist)) in
       let e : bodyBytes c ≡ tables ++ sound =
-      body-given code.Cue (cuesPart (m .cues)) l
-      ∙ ap (λ (s : List ℕ). x ++ s) (body-given code.Playlist (playsPart (m .playlist)) d ∙ ap (λ (s : List ℕ). y ++ s) (append-nil sound))
+      body-given code.Cue (cuesChunk (m .cues)) l
+      ∙ ap (λ (s : List ℕ). x ++ s) (body-given code.Playlist (playsChunk (m .playlist)) d ∙ ap (λ (s : List ℕ). y ++ s) (append-nil sound))
       ∙ sym (append-assoc x y sound) in
-      ap (λ (s : List ℕ). formOf (m .format) ++ s) (body-given code.Fact (factPart (m .format) (m .frames)) c ∙ ap (λ (s : List ℕ). countOf (m .format) (m .frames) ++ s) e)
+      ap (λ (s : List ℕ). formOf (m .format) ++ s) (body-given code.Fact (factChunk (m .format) (m .frames)) c ∙ ap (λ (s : List ℕ). countOf (m .format) (m .frames) ++ s) e)
       ∙ sym (append-assoc (formOf (m .format)) (countOf (m .format) (m .frames)) (tables ++ sound))
 
   module _ {size : ℕ} (e : size ≡ length (fileOf m w)) where
     abbrev first : List ℕ
-    first = opening size (m .format) (m .frames)
+    first = untilTables size (m .format) (m .frames)
 
     file-runs : fileOf m w ≡ first ++ (tables ++ sound)
-    unfolding fileOf opening fileBytes
+    unfolding fileOf untilTables fileBytes
     file-runs =
         let b : List ℕ = bodyBytes (piecesOf (partsOf m w)) in
         let l : length (fileOf m w) ≡ 12 + length b = length-file (piecesOf (partsOf m w)) in
@@ -112,7 +112,7 @@ module _ (m : Record) (w : List ℕ) (room : ℕ) (s : settled m w room ≡ Acce
 
 pub ruleset filing = (size-least, size-fits, opening-room, tables-room, sound-room, file-put, sound-limit, format-kept)
 
--- ---- the answer
+-- ---- the writtenBy
 module _ (m : Record) (w d : List ℕ) {v : Verdict} (e : v ≡ settled m w (length d)) where
   pub asked : v ≡ Accepted → settled m w (length d) ≡ Accepted
   asked f = sym e ∙ f
@@ -121,11 +121,11 @@ module _ (m : Record) (w d : List ℕ) {v : Verdict} (e : v ≡ settled m w (len
   unfolding writing
   answer-written {n} f g =
       let l : BytePlace = record { 0 = length (fileOf m w) } in
-      ap (λ (k : ℕ). Bytes (record { 0 = k })) g ∙ ap (λ (x : Verdict). answer x l) (sym f ∙ e)
+      ap (λ (k : ℕ). Bytes (record { 0 = k })) g ∙ ap (λ (x : Verdict). writtenBy x l) (sym f ∙ e)
 
   pub answer-refused : {r : Refusal} → v ≡ Refused r → written.Refused r ≡ writing m w (length d)
   unfolding writing
-  answer-refused f = ap (λ (x : Verdict). answer x (sizeOf (fileOf m w))) (sym f ∙ e)
+  answer-refused f = ap (λ (x : Verdict). writtenBy x (sizeOf (fileOf m w))) (sym f ∙ e)
 
 pub ruleset answering = (asked, answer-written, answer-refused)
 

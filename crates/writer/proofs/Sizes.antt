@@ -17,7 +17,7 @@ use Rattle.tables.specs.declared.Cues.{Cues}
 use Rattle.tables.specs.declared.Playlist.{Playlist}
 use Rattle.tables.specs.Bytes.{cuesBytes, playsBytes}
 use Rattle.rules.specs.declared.Record.{Record}
-use Rattle.writer.specs.File.{factPart, cuesPart, playsPart, partsOf, fileOf}
+use Rattle.writer.specs.File.{factChunk, cuesChunk, playsChunk, partsOf, fileOf}
 
 -- ---- a chunk that is written or left out
 module _ (p : Part) where
@@ -35,23 +35,23 @@ fact-size f e t = simp (sym e ∙ t)
 pub fact-none : (f : Format) {a : Bool} → a ≡ needsFact f → a ≡ false → _≡_ {A = ℕ} 0 (cond (needsFact f) 12 0)
 fact-none f e t = simp (sym e ∙ t)
 
-fact-extent : (f : Format) (frames : Frames) → cond (needsFact f) 12 0 ≡ extentIf (factPart f frames)
+fact-extent : (f : Format) (frames : Frames) → cond (needsFact f) 12 0 ≡ extentIf (factChunk f frames)
 unfolding extentIf
 fact-extent f frames = rw (fact-long frames) refl
 
 module _ (c : Cues) where
-  pub cues-none : c .count < 1 → 0 ≡ extentIf (cuesPart c)
-  cues-none h = left-out (cuesPart c) (lt-leb 1 (c .count) h)
+  pub cues-none : c .count < 1 → 0 ≡ extentIf (cuesChunk c)
+  cues-none h = left-out (cuesChunk c) (lt-leb 1 (c .count) h)
 
-  pub cues-size : {n : ℕ} → 1 ≤ c .count → n ≡ length (cuesBytes c) → n % 2 ≡ 0 → 8 + n ≡ extentIf (cuesPart c)
-  cues-size h = written (cuesPart c) (le-leb 1 (c .count) h)
+  pub cues-size : {n : ℕ} → 1 ≤ c .count → n ≡ length (cuesBytes c) → n % 2 ≡ 0 → 8 + n ≡ extentIf (cuesChunk c)
+  cues-size h = written (cuesChunk c) (le-leb 1 (c .count) h)
 
 module _ (p : Playlist) where
-  pub plays-none : p .count < 1 → 0 ≡ extentIf (playsPart p)
-  plays-none h = left-out (playsPart p) (lt-leb 1 (p .count) h)
+  pub plays-none : p .count < 1 → 0 ≡ extentIf (playsChunk p)
+  plays-none h = left-out (playsChunk p) (lt-leb 1 (p .count) h)
 
-  pub plays-size : {n : ℕ} → 1 ≤ p .count → n ≡ length (playsBytes p) → n % 2 ≡ 0 → 8 + n ≡ extentIf (playsPart p)
-  plays-size h = written (playsPart p) (le-leb 1 (p .count) h)
+  pub plays-size : {n : ℕ} → 1 ≤ p .count → n ≡ length (playsBytes p) → n % 2 ≡ 0 → 8 + n ≡ extentIf (playsChunk p)
+  plays-size h = written (playsChunk p) (le-leb 1 (p .count) h)
 
 pub ruleset sizes = (fact-size, fact-none, cues-none, cues-size, plays-none, plays-size)
 
@@ -62,7 +62,7 @@ sound-size x y = sym (length-append x y)
 -- ---- the file
 module _ (m : Record) (w : List ℕ) {fmt fact cue plst : ℕ}
     (a : fmt ≡ length (formatBytes (m .format))) (b : fmt % 2 ≡ 0) (c : fact ≡ cond (needsFact (m .format)) 12 0)
-    (d : cue ≡ extentIf (cuesPart (m .cues))) (e : plst ≡ extentIf (playsPart (m .playlist))) where
+    (d : cue ≡ extentIf (cuesChunk (m .cues))) (e : plst ≡ extentIf (playsChunk (m .playlist))) where
   pub file-size : 12 + 8 + fmt + fact + cue + plst + 8 + length w + length w % 2 ≡ length (fileOf m w)
   unfolding fileOf partsOf
   file-size =

@@ -70,8 +70,8 @@ SameNumber =
     → reading (fileOf m w) .verdict ≡ verdict.Refused r
 
 -- ---- the number of an answer, in the order of checks and the numbers of document 01; 0 where the file is written
-unfoldable pub Numbered : Type 0
-Numbered =
+unfoldable pub WriteNumbered : Type 0
+WriteNumbered =
     (m : Record) (w : List ℕ) (room : ℕ)
     → writtenNumber (writing m w room)
     ≡ cond (not (formatRule (m .format))) 9

@@ -26,24 +26,24 @@ use Rattle.writer.specs.declared.Written.the-variants.{Bytes, Refused}
 -- ---- the file
 
 -- `fact` for ADPCM
-abbrev pub factPart : Format → Frames → Part
-factPart f frames = record { there = needsFact f; bytes = factBytes frames }
+abbrev pub factChunk : Format → Frames → Part
+factChunk f frames = record { there = needsFact f; bytes = factBytes frames }
 
 -- `cue ` if c > 0
-abbrev pub cuesPart : Cues → Part
-cuesPart c = record { there = leb 1 (c .count); bytes = cuesBytes c }
+abbrev pub cuesChunk : Cues → Part
+cuesChunk c = record { there = leb 1 (c .count); bytes = cuesBytes c }
 
 -- `plst` if s > 0
-abbrev pub playsPart : Playlist → Part
-playsPart p = record { there = leb 1 (p .count); bytes = playsBytes p }
+abbrev pub playsChunk : Playlist → Part
+playsChunk p = record { there = leb 1 (p .count); bytes = playsBytes p }
 
 unfoldable pub partsOf : Record → List ℕ → Parts
 partsOf m w =
     record {
       format = formatBytes (m .format);
-      fact = factPart (m .format) (m .frames);
-      cues = cuesPart (m .cues);
-      plays = playsPart (m .playlist);
+      fact = factChunk (m .format) (m .frames);
+      cues = cuesChunk (m .cues);
+      plays = playsChunk (m .playlist);
       sound = w;
     }
 
@@ -51,12 +51,12 @@ unfoldable pub fileOf : Record → List ℕ → List ℕ
 fileOf m w = fileBytes (piecesOf (partsOf m w))
 
 -- what functions of the code put of it: of a file of so many bytes those up to the tables, and the tables
-unfoldable pub opening : ℕ → Format → Frames → List ℕ
-opening size f frames =
-    riffBytes (size - 8) ++ (pieceBytes (piece code.Format (formatBytes f)) ++ partBytes code.Fact (factPart f frames))
+unfoldable pub untilTables : ℕ → Format → Frames → List ℕ
+untilTables size f frames =
+    riffBytes (size - 8) ++ (pieceBytes (piece code.Format (formatBytes f)) ++ partBytes code.Fact (factChunk f frames))
 
 abbrev pub tablesOf : Cues → Playlist → List ℕ
-tablesOf c p = partBytes code.Cue (cuesPart c) ++ partBytes code.Playlist (playsPart p)
+tablesOf c p = partBytes code.Cue (cuesChunk c) ++ partBytes code.Playlist (playsChunk p)
 
 -- ---- the verdict: 9 to 13, a file above the limit with 1, then 14
 
@@ -78,21 +78,21 @@ beforeRoom m w =
 unfoldable pub settled : Record → List ℕ → ℕ → Verdict
 settled m w room = andThen (beforeRoom m w) (demand (leb (length (fileOf m w)) room) OutputTooSmall verdict.Accepted)
 
--- ---- the answer, with room for so many bytes
+-- ---- the writtenBy, with room for so many bytes
 
-abbrev pub answer : Verdict → BytePlace → Written
-answer verdict.Accepted n = Bytes n
-answer (verdict.Refused r) n = Refused r
+abbrev pub writtenBy : Verdict → BytePlace → Written
+writtenBy verdict.Accepted n = Bytes n
+writtenBy (verdict.Refused r) n = Refused r
 
 unfoldable pub writing : Record → List ℕ → ℕ → Written
-writing m w room = answer (settled m w room) (sizeOf (fileOf m w))
+writing m w room = writtenBy (settled m w room) (sizeOf (fileOf m w))
 
 -- a buffer d after it: the file from its start and then what it held, or all as it was
 abbrev pub holding : Written → List ℕ → List ℕ → List ℕ
 holding (Bytes n) ys d = front ys d
 holding (Refused r) ys d = d
 
--- the number of an answer: 0 where the file is written
+-- the number of an writtenBy: 0 where the file is written
 abbrev pub writtenNumber : Written → ℕ
 writtenNumber (Bytes n) = 0
 writtenNumber (Refused r) = numberOf r

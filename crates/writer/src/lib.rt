@@ -23,7 +23,7 @@ ghost use Rattle.formats.specs.Format.{formatRule};
 ghost use Rattle.formats.specs.Frames.{needsFact};
 ghost use Rattle.formats.specs.Bytes.{formatBytes};
 ghost use Rattle.riff.specs.Laying.{piece, padBytes, pieceBytes, partBytes, extentIf};
-ghost use Rattle.writer.specs.File.{factPart, cuesPart, playsPart, fileOf, opening, tablesOf, settled, writing, holding};
+ghost use Rattle.writer.specs.File.{factChunk, cuesChunk, playsChunk, fileOf, untilTables, tablesOf, settled, writing, holding};
 
 // What writing answers: the number of bytes of the file, or why there is none.
 pub enum Written {
@@ -35,7 +35,8 @@ pub enum Written {
 
 // The bytes of the `fact`, with its head; none where it is left out.
 fn fact_extent(format: Format) -> usize
-    ensures { λ r. ⌜ (r ≡ cond (needsFact format) 12 0) × (r ≤ 12) ⌝ }
+    ensures answer { λ r. ⌜ r ≡ cond (needsFact format) 12 0 ⌝ }
+    ensures bound { λ r. ⌜ r ≤ 12 ⌝ }
 {
     if formats::needs_fact(format) {
         return 12;
@@ -45,7 +46,8 @@ fn fact_extent(format: Format) -> usize
 
 // The bytes of the `cue `.
 fn cues_extent(cues: Cues) -> usize
-    ensures { λ r. ⌜ (r ≡ extentIf (cuesPart cues)) × (r ≤ 1548) ⌝ }
+    ensures answer { λ r. ⌜ r ≡ extentIf (cuesChunk cues) ⌝ }
+    ensures bound { λ r. ⌜ r ≤ 1548 ⌝ }
 {
     if cues.count < 1 {
         return 0;
@@ -55,7 +57,8 @@ fn cues_extent(cues: Cues) -> usize
 
 // The bytes of the `plst`.
 fn plays_extent(playlist: Playlist) -> usize
-    ensures { λ r. ⌜ (r ≡ extentIf (playsPart playlist)) × (r ≤ 780) ⌝ }
+    ensures answer { λ r. ⌜ r ≡ extentIf (playsChunk playlist) ⌝ }
+    ensures bound { λ r. ⌜ r ≤ 780 ⌝ }
 {
     if playlist.count < 1 {
         return 0;
@@ -65,7 +68,7 @@ fn plays_extent(playlist: Playlist) -> usize
 
 // The bytes of a sound in two parts. Two slices are together shorter than a usize counts.
 fn sound_size(first: &[u8], second: &[u8]) -> usize
-    ensures { λ r. ⌜ r ≡ length (now (first .entry) ++ now (second .entry)) ⌝ }
+    ensures answer { λ r. ⌜ r ≡ length (now (first .entry) ++ now (second .entry)) ⌝ }
 {
     first.len() + second.len()
 }
@@ -73,7 +76,7 @@ fn sound_size(first: &[u8], second: &[u8]) -> usize
 // The length of the file.
 fn file_size(made: Record, first: &[u8], second: &[u8]) -> usize
     requires { ⌜ length (now first ++ now second) ≤ 1073741824 ⌝ }
-    ensures { λ r. ⌜ r ≡ length (fileOf made (now (first .entry) ++ now (second .entry))) ⌝ }
+    ensures answer { λ r. ⌜ r ≡ length (fileOf made (now (first .entry) ++ now (second .entry))) ⌝ }
 {
     let format = made.format;
     let cues = made.cues;
@@ -88,7 +91,7 @@ fn file_size(made: Record, first: &[u8], second: &[u8]) -> usize
 
 // The verdict on writing a record and its sound: 9 to 13, then 1, then 14.
 fn settle(made: Record, first: &[u8], second: &[u8], room: usize) -> Verdict
-    ensures { λ r. ⌜ r ≡ settled made (now (first .entry) ++ now (second .entry)) room ⌝ }
+    ensures answer { λ r. ⌜ r ≡ settled made (now (first .entry) ++ now (second .entry)) room ⌝ }
 {
     let sound = sound_size(first, second);
     let ruled = rules::record_verdict(made, BytePlace(sound));
@@ -114,8 +117,8 @@ fn settle(made: Record, first: &[u8], second: &[u8], room: usize) -> Verdict
 fn put_format(out: &mut [u8], at: usize, format: Format) -> usize
     requires { ⌜ formatRule format ≡ true ⌝ }
     requires { ⌜ at + length (pieceBytes (piece code.Format (formatBytes format))) ≤ length (now out) ⌝ }
-    ensures { λ r. ⌜ (r ≡ at + length (pieceBytes (piece code.Format (formatBytes format))))
-        × Put (now (out .entry)) at (pieceBytes (piece code.Format (formatBytes format))) (now (out .exit)) ⌝ }
+    ensures answer { λ r. ⌜ r ≡ at + length (pieceBytes (piece code.Format (formatBytes format))) ⌝ }
+    ensures buffer { λ r. ⌜ Put (now (out .entry)) at (pieceBytes (piece code.Format (formatBytes format))) (now (out .exit)) ⌝ }
 {
     let size = formats::format_size(format);
     riff::put_head(out, at, Code::Format, size as u32);
@@ -124,9 +127,9 @@ fn put_format(out: &mut [u8], at: usize, format: Format) -> usize
 }
 
 fn put_fact(out: &mut [u8], at: usize, format: Format, frames: Frames) -> usize
-    requires { ⌜ at + length (partBytes code.Fact (factPart format frames)) ≤ length (now out) ⌝ }
-    ensures { λ r. ⌜ (r ≡ at + length (partBytes code.Fact (factPart format frames)))
-        × Put (now (out .entry)) at (partBytes code.Fact (factPart format frames)) (now (out .exit)) ⌝ }
+    requires { ⌜ at + length (partBytes code.Fact (factChunk format frames)) ≤ length (now out) ⌝ }
+    ensures answer { λ r. ⌜ r ≡ at + length (partBytes code.Fact (factChunk format frames)) ⌝ }
+    ensures buffer { λ r. ⌜ Put (now (out .entry)) at (partBytes code.Fact (factChunk format frames)) (now (out .exit)) ⌝ }
 {
     let needed = formats::needs_fact(format);
     if !needed {
@@ -138,9 +141,9 @@ fn put_fact(out: &mut [u8], at: usize, format: Format, frames: Frames) -> usize
 }
 
 fn put_cues(out: &mut [u8], at: usize, cues: Cues) -> usize
-    requires { ⌜ at + length (partBytes code.Cue (cuesPart cues)) ≤ length (now out) ⌝ }
-    ensures { λ r. ⌜ (r ≡ at + length (partBytes code.Cue (cuesPart cues)))
-        × Put (now (out .entry)) at (partBytes code.Cue (cuesPart cues)) (now (out .exit)) ⌝ }
+    requires { ⌜ at + length (partBytes code.Cue (cuesChunk cues)) ≤ length (now out) ⌝ }
+    ensures answer { λ r. ⌜ r ≡ at + length (partBytes code.Cue (cuesChunk cues)) ⌝ }
+    ensures buffer { λ r. ⌜ Put (now (out .entry)) at (partBytes code.Cue (cuesChunk cues)) (now (out .exit)) ⌝ }
 {
     if cues.count < 1 {
         return at;
@@ -152,9 +155,9 @@ fn put_cues(out: &mut [u8], at: usize, cues: Cues) -> usize
 }
 
 fn put_plays(out: &mut [u8], at: usize, playlist: Playlist) -> usize
-    requires { ⌜ at + length (partBytes code.Playlist (playsPart playlist)) ≤ length (now out) ⌝ }
-    ensures { λ r. ⌜ (r ≡ at + length (partBytes code.Playlist (playsPart playlist)))
-        × Put (now (out .entry)) at (partBytes code.Playlist (playsPart playlist)) (now (out .exit)) ⌝ }
+    requires { ⌜ at + length (partBytes code.Playlist (playsChunk playlist)) ≤ length (now out) ⌝ }
+    ensures answer { λ r. ⌜ r ≡ at + length (partBytes code.Playlist (playsChunk playlist)) ⌝ }
+    ensures buffer { λ r. ⌜ Put (now (out .entry)) at (partBytes code.Playlist (playsChunk playlist)) (now (out .exit)) ⌝ }
 {
     if playlist.count < 1 {
         return at;
@@ -168,7 +171,7 @@ fn put_plays(out: &mut [u8], at: usize, playlist: Playlist) -> usize
 // Puts the pad of a chunk of some size: a zero where the size is odd.
 fn put_pad(out: &mut [u8], at: usize, size: usize)
     requires { ⌜ at + length (padBytes size) ≤ length (now out) ⌝ }
-    ensures { λ _. ⌜ Put (now (out .entry)) at (padBytes size) (now (out .exit)) ⌝ }
+    ensures buffer { λ _. ⌜ Put (now (out .entry)) at (padBytes size) (now (out .exit)) ⌝ }
 {
     if size % 2 == 0 {
         return;
@@ -179,7 +182,7 @@ fn put_pad(out: &mut [u8], at: usize, size: usize)
 // Puts the two parts of a sound, one behind the other.
 fn put_joined(out: &mut [u8], at: usize, first: &[u8], second: &[u8])
     requires { ⌜ at + length (now first ++ now second) ≤ length (now out) ⌝ }
-    ensures { λ _. ⌜ Put (now (out .entry)) at (now (first .entry) ++ now (second .entry)) (now (out .exit)) ⌝ }
+    ensures buffer { λ _. ⌜ Put (now (out .entry)) at (now (first .entry) ++ now (second .entry)) (now (out .exit)) ⌝ }
 {
     little::put_bytes(out, at, first);
     little::put_bytes(out, at + first.len(), second);
@@ -188,7 +191,7 @@ fn put_joined(out: &mut [u8], at: usize, first: &[u8], second: &[u8])
 fn put_sound(out: &mut [u8], at: usize, first: &[u8], second: &[u8])
     requires { ⌜ length (now first ++ now second) ≤ 1073741824 ⌝ }
     requires { ⌜ at + length (pieceBytes (piece code.Data (now first ++ now second))) ≤ length (now out) ⌝ }
-    ensures { λ _. ⌜ Put (now (out .entry)) at (pieceBytes (piece code.Data (now (first .entry) ++ now (second .entry)))) (now (out .exit)) ⌝ }
+    ensures buffer { λ _. ⌜ Put (now (out .entry)) at (pieceBytes (piece code.Data (now (first .entry) ++ now (second .entry)))) (now (out .exit)) ⌝ }
 {
     let size = sound_size(first, second);
     riff::put_head(out, at, Code::Data, size as u32);
@@ -202,9 +205,9 @@ fn put_sound(out: &mut [u8], at: usize, first: &[u8], second: &[u8])
 fn put_opening(out: &mut [u8], size: u32, format: Format, frames: Frames) -> usize
     requires { ⌜ formatRule format ≡ true ⌝ }
     requires { ⌜ 12 ≤ size ⌝ }
-    requires { ⌜ length (opening size format frames) ≤ length (now out) ⌝ }
-    ensures { λ r. ⌜ (r ≡ length (opening size format frames))
-        × Put (now (out .entry)) 0 (opening size format frames) (now (out .exit)) ⌝ }
+    requires { ⌜ length (untilTables size format frames) ≤ length (now out) ⌝ }
+    ensures answer { λ r. ⌜ r ≡ length (untilTables size format frames) ⌝ }
+    ensures buffer { λ r. ⌜ Put (now (out .entry)) 0 (untilTables size format frames) (now (out .exit)) ⌝ }
 {
     riff::put_riff(out, size - 8);
     let next = put_format(out, 12, format);
@@ -214,8 +217,8 @@ fn put_opening(out: &mut [u8], size: u32, format: Format, frames: Frames) -> usi
 // Puts the two tables.
 fn put_tables(out: &mut [u8], at: usize, cues: Cues, playlist: Playlist) -> usize
     requires { ⌜ at + length (tablesOf cues playlist) ≤ length (now out) ⌝ }
-    ensures { λ r. ⌜ (r ≡ at + length (tablesOf cues playlist))
-        × Put (now (out .entry)) at (tablesOf cues playlist) (now (out .exit)) ⌝ }
+    ensures answer { λ r. ⌜ r ≡ at + length (tablesOf cues playlist) ⌝ }
+    ensures buffer { λ r. ⌜ Put (now (out .entry)) at (tablesOf cues playlist) (now (out .exit)) ⌝ }
 {
     let next = put_cues(out, at, cues);
     put_plays(out, next, playlist)
@@ -224,8 +227,8 @@ fn put_tables(out: &mut [u8], at: usize, cues: Cues, playlist: Playlist) -> usiz
 // Puts the whole file, for which all is settled, and gives its length.
 fn put_file(made: Record, first: &[u8], second: &[u8], out: &mut [u8]) -> BytePlace
     requires { ⌜ settled made (now first ++ now second) (length (now out)) ≡ verdict.Accepted ⌝ }
-    ensures { λ r. ⌜ (r .0 ≡ length (fileOf made (now (first .entry) ++ now (second .entry))))
-        × (now (out .exit) ≡ front (fileOf made (now (first .entry) ++ now (second .entry))) (now (out .entry))) ⌝ }
+    ensures size { λ r. ⌜ r .0 ≡ length (fileOf made (now (first .entry) ++ now (second .entry))) ⌝ }
+    ensures buffer { λ r. ⌜ now (out .exit) ≡ front (fileOf made (now (first .entry) ++ now (second .entry))) (now (out .entry)) ⌝ }
 {
     let format = made.format;
     let frames = made.frames;
@@ -240,16 +243,16 @@ fn put_file(made: Record, first: &[u8], second: &[u8], out: &mut [u8]) -> BytePl
 
 // Writes a record and its sound as a file, from the start of a lent buffer.
 pub fn write(made: Record, sound: &[u8], out: &mut [u8]) -> Written
-    ensures { λ r. ⌜ (r ≡ writing made (now (sound .entry)) (length (now (out .entry))))
-        × (now (out .exit) ≡ holding r (fileOf made (now (sound .entry))) (now (out .entry))) ⌝ }
+    ensures answer { λ r. ⌜ r ≡ writing made (now (sound .entry)) (length (now (out .entry))) ⌝ }
+    ensures buffer { λ r. ⌜ now (out .exit) ≡ holding r (fileOf made (now (sound .entry))) (now (out .entry)) ⌝ }
 {
     write_joined(made, sound, b"", out)
 }
 
 // The same with a sound in two parts, one behind the other, as adding to a side has it.
 pub fn write_joined(made: Record, first: &[u8], second: &[u8], out: &mut [u8]) -> Written
-    ensures { λ r. ⌜ (r ≡ writing made (now (first .entry) ++ now (second .entry)) (length (now (out .entry))))
-        × (now (out .exit) ≡ holding r (fileOf made (now (first .entry) ++ now (second .entry))) (now (out .entry))) ⌝ }
+    ensures answer { λ r. ⌜ r ≡ writing made (now (first .entry) ++ now (second .entry)) (length (now (out .entry))) ⌝ }
+    ensures buffer { λ r. ⌜ now (out .exit) ≡ holding r (fileOf made (now (first .entry) ++ now (second .entry))) (now (out .entry)) ⌝ }
 {
     let verdict = settle(made, first, second, out.len());
     match verdict {

@@ -1,4 +1,4 @@
--- 9 for words that are not fine; else what writing answers.
+-- 9 for words that are not valid; else what writing answers.
 use Rattle.wave_c.proofs.Laws.{wording}
 use borrow.Author.Needs.{needs}
 use Rattle.wave_c.proofs.tronalhet_write.Statement.{statement}

@@ -1,0 +1,40 @@
+-- The encodedBy of encoding, and what the lent buffer then holds. Assumes nothing.
+use Prim.Native.Nat.{ℕ}
+use mathlib.Core.List.{List}
+use lib.IntN.{ℤ}
+use lib.ListN.{length}
+use Rattle.little.specs.Writing.{front}
+use Rattle.units.specs.declared.Verdict.{Verdict}
+use Rattle.units.specs.Refusals.{numberOf}
+use Rattle.encode.specs.declared.Coded.{Coded}
+use Rattle.encode.specs.declared.Encoded.{Encoded}
+use Rattle.encode.specs.declared.Encoded.the-variants.{Blocks, Refused}
+use Rattle.encode.specs.Encoding.{encodedBytes, chasedCount, encodeVerdict}
+
+-- what was written: the number of bytes, and the chased samples of left and right
+unfoldable pub codedOf : ℕ → ℕ → List ℤ → Coded
+codedOf c a s =
+    record {
+      bytes = record { 0 = length (encodedBytes c a s) };
+      left = record { 0 = chasedCount c a s 0 };
+      right = record { 0 = chasedCount c a s 1 };
+    }
+
+-- the encodedBy that a verdict gives
+abbrev pub encodedBy : Verdict → Coded → Encoded
+encodedBy Verdict.Accepted w = Blocks w
+encodedBy (Verdict.Refused r) w = Refused r
+
+-- the encodedBy of encoding s, with room for so many bytes
+unfoldable pub encoding : List ℤ → ℕ → ℕ → ℕ → Encoded
+encoding s c a room = encodedBy (encodeVerdict (length s) c a room) (codedOf c a s)
+
+-- a buffer d after it: the blocks from its start and then what it held, or all as it was
+abbrev pub holding : {A : Type 0} → Encoded → List A → List A → List A
+holding (Blocks w) ys d = front ys d
+holding (Refused r) ys d = d
+
+-- the number of an encodedBy: 0 where the blocks are written
+abbrev pub encodedNumber : Encoded → ℕ
+encodedNumber (Blocks w) = 0
+encodedNumber (Refused r) = numberOf r

@@ -1,0 +1,363 @@
+// One IMA block of a sound, coded into a lent buffer, and how many of its samples are chased.
+//
+// A block is coded in order of the output: in mono all bytes of the one channel, in stereo four bytes
+// of each channel in turn. Where a last short block runs past the sound, each channel's last sample
+// is coded again and again; that fill is not counted.
+ghost use mathlib.Core.Path.{_≡_};
+ghost use mathlib.Core.Bool.{cond, _&&_};
+ghost use mathlib.Core.List.{[], _∷_, _++_};
+ghost use Prim.Native.Nat.{_+_, _-_, _*_, _/_, _≤_, _<_, min};
+ghost use lib.ListN.{length};
+ghost use Rattle.little.specs.Writing.{Put};
+ghost use Rattle.lists.specs.Turns.{inTurn};
+ghost use Rattle.ima_code.specs.Code.{steps, codeFor, tracked, isChased};
+ghost use Rattle.ima_code.specs.Machine.{codesOf};
+ghost use Rattle.ima_coder.specs.Part.{samplesFrom, packed, blockHead, codedPart, channelAfter, openedWith, channelAfterBlock, leftsFrom, rightsFrom, Ran, BothRan};
+use ima_code::ImaState;
+use ima_code::encode_code;
+
+// A channel while it is coded: its state, and how many of its samples were chased.
+pub struct Channel {
+    pub state: ImaState,
+    pub chased: u32,
+}
+
+// Both channels.
+pub struct Channels {
+    pub left: Channel,
+    pub right: Channel,
+}
+
+// Two samples coded: their codes in a byte, whether each is chased, and the state after them.
+pub struct Two {
+    pub byte: u8,
+    pub first: bool,
+    pub second: bool,
+    pub state: ImaState,
+}
+
+// 1 for a chased sample of the sound, 0 for others and for fill.
+fn counted(there: bool, chased: bool) -> u32
+    ensures answer { λ r. ⌜ r ≡ cond (there && chased) 1 0 ⌝ }
+    ensures bound { λ r. ⌜ r ≤ 1 ⌝ }
+{
+    if there {
+        if chased {
+            return 1;
+        }
+    }
+    0
+}
+
+// The smaller of two numbers.
+fn least(a: usize, b: usize) -> usize
+    ensures answer { λ r. ⌜ r ≡ min a b ⌝ }
+{
+    if a <= b {
+        return a;
+    }
+    b
+}
+
+// A number less another, not below 0.
+fn less(a: usize, b: usize) -> usize
+    ensures answer { λ r. ⌜ r ≡ a - b ⌝ }
+{
+    if a <= b {
+        return 0;
+    }
+    a - b
+}
+
+// Codes n bytes of a channel, two samples to each, the samples from index `at` on, a stride apart; all of
+// them are there.
+fn real_bytes(
+    sound: &[i16],
+    at: usize,
+    stride: usize,
+    n: usize,
+    table: &[u16; 89],
+    from: Channel,
+    out: &mut [u8],
+    to: usize,
+) -> Channel
+    requires { ⌜ (at ≤ 4294967296) × (stride * (2 * n) ≤ length (now sound) - 1 + stride - at) × (1 ≤ stride) × (stride ≤ 2) × (n ≤ 4096) × (to + n ≤ length (now out))
+        × (from .state .index < 89) × (from .chased + 2 * n < 4294967296) × (now table ≡ steps) ⌝ }
+    ensures ran { λ r. ⌜ Ran from (2 * n)
+        (channelAfter from (2 * n) (samplesFrom (now (sound .entry)) stride (length (now (sound .entry)) - 1) at (2 * n)))
+        (packed (codesOf (from .state) (samplesFrom (now (sound .entry)) stride (length (now (sound .entry)) - 1) at (2 * n))))
+        r (now (out .entry)) to (now (out .exit)) ⌝ }
+{
+    let mut state = from.state;
+    let mut chased = from.chased;
+    let mut x = at;
+    let mut i = 0;
+    while i < n {
+        let a = encode_code(state, sound[x], table);
+        let b = encode_code(a.state, sound[x + stride], table);
+        out[to + i] = (a.code + 16 * b.code) as u8;
+        chased = chased + counted(true, a.chased) + counted(true, b.chased);
+        state = b.state;
+        x += stride + stride;
+        i += 1;
+    }
+    Channel {
+        state: state,
+        chased: chased,
+    }
+}
+
+// Codes two samples, the second from the state after the first.
+fn two_samples(state: ImaState, first: i16, second: i16, table: &[u16; 89]) -> Two
+    requires { ⌜ (state .index < 89) × (now table ≡ steps) ⌝ }
+    ensures byte { λ r. ⌜ r .byte ≡ codeFor state first + 16 * codeFor (tracked state first) second ⌝ }
+    ensures first { λ r. ⌜ r .first ≡ isChased state first ⌝ }
+    ensures second { λ r. ⌜ r .second ≡ isChased (tracked state first) second ⌝ }
+    ensures state { λ r. ⌜ r .state ≡ tracked (tracked state first) second ⌝ }
+    ensures index_bound { λ r. ⌜ r .state .index < 89 ⌝ }
+{
+    let a = encode_code(state, first, table);
+    let b = encode_code(a.state, second, table);
+    let after = b.state;
+    Two {
+        byte: (a.code + 16 * b.code) as u8,
+        first: a.chased,
+        second: b.chased,
+        state: after,
+    }
+}
+
+// Codes n bytes of a channel as `real_bytes` does, where only the next `left` samples are there: past index
+// `last` the sample there is coded again, and only those that are there are counted.
+fn filled_bytes(
+    sound: &[i16],
+    at: usize,
+    stride: usize,
+    last: usize,
+    left: usize,
+    n: usize,
+    table: &[u16; 89],
+    from: Channel,
+    out: &mut [u8],
+    to: usize,
+) -> Channel
+    requires { ⌜ (last < length (now sound)) × (at ≤ 4294967296) × (1 ≤ stride) × (stride ≤ 2) × (n ≤ 4096) × (to + n ≤ length (now out))
+        × (from .state .index < 89) × (from .chased + 2 * n < 4294967296) × (now table ≡ steps) ⌝ }
+    ensures ran { λ r. ⌜ Ran from (2 * n)
+        (channelAfter from left (samplesFrom (now (sound .entry)) stride last at (2 * n)))
+        (packed (codesOf (from .state) (samplesFrom (now (sound .entry)) stride last at (2 * n))))
+        r (now (out .entry)) to (now (out .exit)) ⌝ }
+{
+    let mut state = from.state;
+    let mut chased = from.chased;
+    let mut x = at;
+    let mut i = 0;
+    while i < n {
+        let y = least(x, last);
+        let z = least(x + stride, last);
+        let two = two_samples(state, sound[y], sound[z], table);
+        out[to + i] = two.byte;
+        chased = chased + counted(2 * i < left, two.first) + counted(2 * i + 1 < left, two.second);
+        state = two.state;
+        x += stride + stride;
+        i += 1;
+    }
+    Channel {
+        state: state,
+        chased: chased,
+    }
+}
+
+// Codes n bytes of a channel, of which the next `left` samples are there.
+fn channel_bytes(
+    sound: &[i16],
+    at: usize,
+    stride: usize,
+    last: usize,
+    left: usize,
+    n: usize,
+    table: &[u16; 89],
+    from: Channel,
+    out: &mut [u8],
+    to: usize,
+) -> Channel
+    requires { ⌜ (last < length (now sound)) × (stride * left ≤ last + stride - at) × (at ≤ 4294967296) × (1 ≤ stride) × (stride ≤ 2) × (n ≤ 4096)
+        × (to + n ≤ length (now out)) × (from .state .index < 89) × (from .chased + 2 * n < 4294967296) × (now table ≡ steps) ⌝ }
+    ensures ran { λ r. ⌜ Ran from (2 * n)
+        (channelAfter from left (samplesFrom (now (sound .entry)) stride last at (2 * n)))
+        (packed (codesOf (from .state) (samplesFrom (now (sound .entry)) stride last at (2 * n))))
+        r (now (out .entry)) to (now (out .exit)) ⌝ }
+{
+    if 2 * n <= left {
+        return real_bytes(sound, at, stride, n, table, from, out, to);
+    }
+    filled_bytes(sound, at, stride, last, left, n, table, from, out, to)
+}
+
+// Opens a block of a channel with a sample: puts its header.
+fn open(sample: i16, from: Channel, out: &mut [u8], to: usize) -> Channel
+    requires { ⌜ (from .state .index < 89) × (to + 4 ≤ length (now out)) ⌝ }
+    ensures answer { λ r. ⌜ r ≡ openedWith from sample ⌝ }
+    ensures index_bound { λ r. ⌜ r .state .index < 89 ⌝ }
+    ensures chased { λ r. ⌜ r .chased ≡ from .chased ⌝ }
+    ensures buffer { λ r. ⌜ Put (now (out .entry)) to (blockHead sample (from .state .index)) (now (out .exit)) ⌝ }
+{
+    let index = from.state.index;
+    samples::put_sample(out, to, sample);
+    out[to + 2] = index as u8;
+    out[to + 3] = 0;
+    Channel {
+        state: ImaState {
+            last: sample,
+            index: index,
+        },
+        chased: from.chased,
+    }
+}
+
+// Opens a block of both channels.
+fn open_both(left: i16, right: i16, from: Channels, out: &mut [u8], to: usize) -> Channels
+    requires { ⌜ (from .left .state .index < 89) × (from .right .state .index < 89) × (to + 8 ≤ length (now out)) ⌝ }
+    ensures left { λ r. ⌜ r .left ≡ openedWith (from .left) left ⌝ }
+    ensures right { λ r. ⌜ r .right ≡ openedWith (from .right) right ⌝ }
+    ensures left_index_bound { λ r. ⌜ r .left .state .index < 89 ⌝ }
+    ensures right_index_bound { λ r. ⌜ r .right .state .index < 89 ⌝ }
+    ensures left_chased { λ r. ⌜ r .left .chased ≡ from .left .chased ⌝ }
+    ensures right_chased { λ r. ⌜ r .right .chased ≡ from .right .chased ⌝ }
+    ensures buffer { λ r. ⌜ Put (now (out .entry)) to (blockHead left (from .left .state .index) ++ blockHead right (from .right .state .index)) (now (out .exit)) ⌝ }
+{
+    let l = open(left, from.left, out, to);
+    let r = open(right, from.right, out, to + 4);
+    Channels { left: l, right: r }
+}
+
+// Codes the block of a mono sound that opens at a frame.
+pub fn mono_block(
+    sound: &[i16],
+    frame: usize,
+    groups: usize,
+    table: &[u16; 89],
+    from: Channel,
+    out: &mut [u8],
+    to: usize,
+) -> Channel
+    requires { ⌜ (frame < length (now sound)) × (length (now sound) ≤ 536870912) × (groups ≤ 1023) × (to + 4 * groups + 4 ≤ length (now out))
+        × (from .state .index < 89) × (from .chased + 8 * groups < 4294967296) × (now table ≡ steps) ⌝ }
+    ensures ran { λ r. ⌜ Ran from (8 * groups)
+        (channelAfterBlock from (length (now (sound .entry)) - frame) (samplesFrom (now (sound .entry)) 1 (length (now (sound .entry)) - 1) frame (8 * groups + 1)))
+        (codedPart (from .state .index) (samplesFrom (now (sound .entry)) 1 (length (now (sound .entry)) - 1) frame (8 * groups + 1)))
+        r (now (out .entry)) to (now (out .exit)) ⌝ }
+{
+    let n = sound.len();
+    let channel = open(sound[frame], from, out, to);
+    channel_bytes(
+        sound,
+        frame + 1,
+        1,
+        n - 1,
+        n - (frame + 1),
+        4 * groups,
+        table,
+        channel,
+        out,
+        to + 4,
+    )
+}
+
+// Codes eight frames of both channels: four bytes of the left one, then four of the right one.
+fn stereo_group(
+    sound: &[i16],
+    at: usize,
+    left: usize,
+    table: &[u16; 89],
+    from: Channels,
+    out: &mut [u8],
+    to: usize,
+) -> Channels
+    requires { ⌜ (2 ≤ length (now sound)) × (2 * left ≤ length (now sound) - at) × (at < 4294967296) × (to + 8 ≤ length (now out))
+        × (from .left .state .index < 89) × (from .right .state .index < 89)
+        × (from .left .chased + 8 < 4294967296) × (from .right .chased + 8 < 4294967296) × (now table ≡ steps) ⌝ }
+    ensures ran { λ r. ⌜ BothRan from 8
+        (channelAfter (from .left) left (leftsFrom (now (sound .entry)) at 8))
+        (channelAfter (from .right) left (rightsFrom (now (sound .entry)) at 8))
+        (packed (codesOf (from .left .state) (leftsFrom (now (sound .entry)) at 8)) ++ packed (codesOf (from .right .state) (rightsFrom (now (sound .entry)) at 8)))
+        r (now (out .entry)) to (now (out .exit)) ⌝ }
+{
+    let n = sound.len();
+    let l = channel_bytes(sound, at, 2, n - 2, left, 4, table, from.left, out, to);
+    let r = channel_bytes(
+        sound,
+        at + 1,
+        2,
+        n - 1,
+        left,
+        4,
+        table,
+        from.right,
+        out,
+        to + 4,
+    );
+    Channels { left: l, right: r }
+}
+
+// Codes groups of eight frames of both channels, four bytes of each channel in turn. Of each channel
+// the next `left` samples are there.
+fn stereo_groups(
+    sound: &[i16],
+    at: usize,
+    left: usize,
+    groups: usize,
+    table: &[u16; 89],
+    from: Channels,
+    out: &mut [u8],
+    to: usize,
+) -> Channels
+    requires { ⌜ (2 ≤ length (now sound)) × (2 * left ≤ length (now sound) - at) × (at ≤ 1073741824) × (groups ≤ 511)
+        × (to + 8 * groups ≤ length (now out)) × (from .left .state .index < 89) × (from .right .state .index < 89)
+        × (from .left .chased + 8 * groups < 4294967296) × (from .right .chased + 8 * groups < 4294967296) × (now table ≡ steps) ⌝ }
+    ensures ran { λ r. ⌜ BothRan from (8 * groups)
+        (channelAfter (from .left) left (leftsFrom (now (sound .entry)) at (8 * groups)))
+        (channelAfter (from .right) left (rightsFrom (now (sound .entry)) at (8 * groups)))
+        (inTurn 4 groups (packed (codesOf (from .left .state) (leftsFrom (now (sound .entry)) at (8 * groups)))
+        ∷ packed (codesOf (from .right .state) (rightsFrom (now (sound .entry)) at (8 * groups))) ∷ []))
+        r (now (out .entry)) to (now (out .exit)) ⌝ }
+{
+    let mut channels = from;
+    let mut there = left;
+    let mut x = at;
+    let mut y = to;
+    let mut i = 0;
+    while i < groups {
+        channels = stereo_group(sound, x, there, table, channels, out, y);
+        there = less(there, 8);
+        x += 16;
+        y += 8;
+        i += 1;
+    }
+    channels
+}
+
+// Codes the block of a stereo sound that opens at an index of the sound.
+pub fn stereo_block(
+    sound: &[i16],
+    at: usize,
+    groups: usize,
+    table: &[u16; 89],
+    from: Channels,
+    out: &mut [u8],
+    to: usize,
+) -> Channels
+    requires { ⌜ (at + 2 ≤ length (now sound)) × (length (now sound) ≤ 536870912) × (groups ≤ 511) × (to + 8 * groups + 8 ≤ length (now out))
+        × (from .left .state .index < 89) × (from .right .state .index < 89)
+        × (from .left .chased + 8 * groups < 4294967296) × (from .right .chased + 8 * groups < 4294967296) × (now table ≡ steps) ⌝ }
+    ensures ran { λ r. ⌜ BothRan from (8 * groups)
+        (channelAfterBlock (from .left) ((length (now (sound .entry)) - at) / 2) (leftsFrom (now (sound .entry)) at (8 * groups + 1)))
+        (channelAfterBlock (from .right) ((length (now (sound .entry)) - at) / 2) (rightsFrom (now (sound .entry)) at (8 * groups + 1)))
+        (inTurn 4 (groups + 1) (codedPart (from .left .state .index) (leftsFrom (now (sound .entry)) at (8 * groups + 1))
+        ∷ codedPart (from .right .state .index) (rightsFrom (now (sound .entry)) at (8 * groups + 1)) ∷ []))
+        r (now (out .entry)) to (now (out .exit)) ⌝ }
+{
+    let left = (sound.len() - at) / 2 - 1;
+    let channels = open_both(sound[at], sound[at + 1], from, out, to);
+    stereo_groups(sound, at + 2, left, groups, table, channels, out, to + 8)
+}

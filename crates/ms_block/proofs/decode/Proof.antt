@@ -1,0 +1,11 @@
+-- One channel or two; what is required of the block is what its function asks.
+use Rattle.ms_block.proofs.Laws.{channels}
+use borrow.Author.Needs.{needs}
+use Rattle.ms_block.proofs.decode.Statement.{statement}
+use Rattle.ms_block.proofs.decode.Tie as tie
+
+pub decode-spec : {M : Type 1} → statement M
+decode-spec =
+    tie.close
+    (tie.spec (λ c κs. search (needs, channels)) (λ c. search needs) (λ c. search (needs, channels))
+    (λ c κs. search (needs, channels)) (λ c. search needs) (λ c. search (needs, channels)))
