@@ -30,7 +30,7 @@ use Rattle.decode.specs.Decoding.{wholeVerdict, blockVerdict, decodedBy,
 use Rattle.decode.specs.Demands.{Told, WholeTold, BlockTold, OneOfAll, PcmSound, DecodeNumbered, BlockNumbered, readersOr}
 use Rattle.decode.proofs.Checks.{part-counted, part-adpcm}
 
--- ---- an decodedBy that is frames
+-- ---- an answer that is frames
 frames-are : (v : Verdict) (k : ℕ) (n : units.Frames) → decodedBy v k ≡ Frames n
     → (v ≡ verdict.Accepted) × (decodedFrames (decodedBy v k) ≡ k)
 frames-are verdict.Accepted k n e = (refl, refl)

@@ -1,4 +1,4 @@
--- Decoding a file, or one block of it: the decodedBy, the sound, and what the lent buffer then holds. Assumes nothing.
+-- Decoding a file, or one block of it: the answer, the sound, and what the lent buffer then holds. Assumes nothing.
 use Prim.Native.Nat.{ℕ, _*_}
 use mathlib.Core.List.{List, []}
 use lib.Dec.{leb}
@@ -79,12 +79,12 @@ abbrev pub holding : Decoded → List ℤ → List ℤ → List ℤ
 holding (Frames n) sound d = front sound d
 holding (Refused r) sound d = d
 
--- how many frames an decodedBy tells; a refusal tells none
+-- how many frames an answer tells; a refusal tells none
 abbrev pub decodedFrames : Decoded → ℕ
 decodedFrames (Frames n) = n .0
 decodedFrames (Refused r) = 0
 
--- the number of an decodedBy: 0 where the sound is put out
+-- the number of an answer: 0 where the sound is put out
 abbrev pub decodedNumber : Decoded → ℕ
 decodedNumber (Frames n) = 0
 decodedNumber (Refused r) = numberOf r

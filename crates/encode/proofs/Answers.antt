@@ -1,4 +1,4 @@
--- The encodedBy of encoding, from the checks and the blocks. Assumes nothing.
+-- The answer of encoding, from the checks and the blocks. Assumes nothing.
 use mathlib.Core.Path.{_≡_, refl, sym, ap, _∙_, subst}
 use mathlib.Core.List.{List}
 use Prim.Native.Nat.{ℕ, _*_, _%_, _≤_}
@@ -158,7 +158,7 @@ module _ (c a room : ℕ) (s : List ℤ) (e : encodeVerdict (length s) c a room 
 
 pub ruleset writing = (said-some, said-room, said-most, said-small, said-fits, one-whole, one-least, one-blocks, one-fits, two-whole, two-least, two-frames, two-blocks, two-fits, mono-answer, mono-buffer, stereo-answer, stereo-buffer)
 
--- ---- the encodedBy
+-- ---- the answer
 module _ (c a room : ℕ) (s : List ℤ) {v : Verdict} (e : v ≡ encodeVerdict (length s) c a room) where
   pub asked : v ≡ Accepted → encodeVerdict (length s) c a room ≡ Accepted
   asked f = sym e ∙ f

@@ -1,4 +1,4 @@
--- Demand 3: what is imaHeard of the blocks written is what encoding tracked, as near as each code is. Assumes nothing.
+-- Demand 3: what is heard of the blocks written is what encoding tracked, as near as each code is. Assumes nothing.
 use mathlib.Core.Path.{_≡_, refl, sym, ap, _∙_}
 use mathlib.Core.Bool.{Bool, true, false, cond, _&&_}
 use mathlib.Core.List.{List, [], _∷_}
@@ -77,7 +77,7 @@ module _ (c a : ℕ) (s : List ℤ) (ch : ℕ) (w : Codable c a) (z : Sixteen s)
   abbrev bytes : List ℕ
   bytes = encodedBytes c a s
 
-  -- what is imaHeard is what encoding tracked
+  -- what is heard is what encoding tracked
   heard-tracked : (f : ℕ) → f < length s / c
       → heardAt c a bytes ch f ≡ getD (trackedPart (openIndex c a s ch (f / p)) (blockOf c a s ch (f / p)))
       (f % p) silent
@@ -256,7 +256,7 @@ counted-left c a s w z r =
     counted c a s 0 w z r
     ∙ ap (λ (b : Bool). cond b (countOf (chasedFrames c a s (encodedBytes c a s) 0)) 0) (lt-ltb 0 c (w .some))
 
--- ---- an encodedBy that is blocks
+-- ---- an answer that is blocks
 abbrev within-answer : Coded → Encoded → Coded
 within-answer d (Blocks w) = w
 within-answer d (Refused r) = d
@@ -290,7 +290,7 @@ tracked-back s c a room w z e ch f l h =
     settled-says (length s) c a room (accepted (encodeVerdict (length s) c a room) e .0) in
     heard-tracked c a s ch (t .valid) z (t .whole) l f h
 
--- ---- the number of an encodedBy: each demand is a row
+-- ---- the number of an answer: each demand is a row
 answer-number : (v : Verdict) (u : Coded) → encodedNumber (encodedBy v u) ≡ verdictNumber v
 answer-number Accepted u = refl
 answer-number (Verdict.Refused r) u = refl

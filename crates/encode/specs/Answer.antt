@@ -1,4 +1,4 @@
--- The encodedBy of encoding, and what the lent buffer then holds. Assumes nothing.
+-- The answer of encoding, and what the lent buffer then holds. Assumes nothing.
 use Prim.Native.Nat.{ℕ}
 use mathlib.Core.List.{List}
 use lib.IntN.{ℤ}
@@ -20,12 +20,12 @@ codedOf c a s =
       right = record { 0 = chasedCount c a s 1 };
     }
 
--- the encodedBy that a verdict gives
+-- the answer that a verdict gives
 abbrev pub encodedBy : Verdict → Coded → Encoded
 encodedBy Verdict.Accepted w = Blocks w
 encodedBy (Verdict.Refused r) w = Refused r
 
--- the encodedBy of encoding s, with room for so many bytes
+-- the answer of encoding s, with room for so many bytes
 unfoldable pub encoding : List ℤ → ℕ → ℕ → ℕ → Encoded
 encoding s c a room = encodedBy (encodeVerdict (length s) c a room) (codedOf c a s)
 
@@ -34,7 +34,7 @@ abbrev pub holding : {A : Type 0} → Encoded → List A → List A → List A
 holding (Blocks w) ys d = front ys d
 holding (Refused r) ys d = d
 
--- the number of an encodedBy: 0 where the blocks are written
+-- the number of an answer: 0 where the blocks are written
 abbrev pub encodedNumber : Encoded → ℕ
 encodedNumber (Blocks w) = 0
 encodedNumber (Refused r) = numberOf r

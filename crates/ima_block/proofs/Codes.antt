@@ -34,7 +34,7 @@ high-fits s i f = let b = f i .fits in record { fits = omega arith }
 high-is : (t : ImaState) {x y : ImaState} (byte : ℕ) → x ≡ lowOf t byte → y ≡ afterCode x (byte / 16) → highOf t byte ≡ y
 high-is t byte e f = sym (f ∙ ap (λ (u : ImaState). afterCode u (byte / 16)) e)
 
--- what is imaHeard of byte i
+-- what is heard of byte i
 heard-next : (t : ImaState) (s : List ℕ) (i : ℕ) → i < length s
     → imaHeard t (drop i s)
     ≡ lowOf t (getD s i 0) .last ∷ highOf t (getD s i 0) .last ∷ imaHeard (highOf t (getD s i 0)) (drop (i + 1) s)

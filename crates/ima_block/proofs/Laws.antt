@@ -1,4 +1,4 @@
--- Laws of whole blocks: the frames of a block are its header samples and what is imaHeard of its codes. Assumes nothing.
+-- Laws of whole blocks: the frames of a block are its header samples and what is heard of its codes. Assumes nothing.
 use mathlib.Core.Path.{_≡_, refl, sym, ap, _∙_}
 use mathlib.Core.Bool.{true}
 use mathlib.Core.List.{List, [], _∷_}

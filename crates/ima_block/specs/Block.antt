@@ -32,7 +32,7 @@ lowFirst (b ∷ bs) = b % 16 ∷ b / 16 ∷ lowFirst bs
 unfoldable pub statesIn : List ℕ → List ImaState
 statesIn p = imaOpened p ∷ run (imaOpened p) (lowFirst (drop 4 p))
 
--- what is imaHeard from a state on
+-- what is heard from a state on
 unfoldable pub imaHeard : ImaState → List ℕ → List ℤ
 imaHeard t bytes = map (λ s. s .last) (run t (lowFirst bytes))
 

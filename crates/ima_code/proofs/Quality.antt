@@ -1,4 +1,4 @@
--- Demand 3 of one sample: how near it is afterCode, by arithmetic over the eight ways to set the bits. Assumes nothing.
+-- Demand 3 of one sample: how near it is decoded, by arithmetic over the eight ways to set the bits. Assumes nothing.
 use mathlib.Core.Path.{_≡_, sym, _∙_, ap, subst}
 use mathlib.Core.Bool.{Bool, true, false, cond}
 use Prim.Native.Nat.{ℕ, _+_, _-_, _*_, _/_, _%_, _≤_, _<_, min}
@@ -167,7 +167,7 @@ module _ {t : ImaState} {x : ℤ} (c : InRange t) (f : SFits w16 x) where
   close : isChased t x ≡ false → gap (r .w) (q .u) ≤ slack (stepAt (t .index))
   close e = r .comes .close (omega (arith, near t x e, apart))
 
-  -- the afterCode sample is near its original
+  -- the decoded sample is near its original
   pub faithful : Faithful t x (tracked t x .last)
   faithful =
       let g = is-abs (is-gap (r .is) (q .is)) in
@@ -179,7 +179,7 @@ module _ {t : ImaState} {x : ℤ} (c : InRange t) (f : SFits w16 x) where
         above = λ e l. is-le (q .is) (r .is) (chasing e .above (le-is (q .is) (p .is) l));
       }
 
-  -- and where it is chased, the afterCode sample is an eighth of the step away from both ends
+  -- and where it is chased, the decoded sample is an eighth of the step away from both ends
   pub chased-inside : isChased t x ≡ true → Inside (stepAt (t .index) / 8) (tracked t x .last)
   chased-inside e = record { w = r .w; is = r .is; low = chasing e .low; high = chasing e .high }
 

@@ -87,11 +87,11 @@ bitsFor s m = bitIf 4 s m + bitIf 2 (s / 2) (leftOf s m) + bitIf 1 (s / 4) (left
 unfoldable pub codeOf : ℕ → ℤ → ℕ
 codeOf s d = cond (ltZ d (pos 0)) 8 0 + bitsFor s (natAbs d)
 
--- the code of a sample: d = sample - last afterCode sample
+-- the code of a sample: d = sample - last decoded sample
 unfoldable pub codeFor : ImaState → ℤ → ℕ
 codeFor t x = codeOf (stepAt (t .index)) (x -ℤ t .last)
 
--- the afterCode sample and index then follow the rule above
+-- the decoded sample and index then follow the rule above
 unfoldable pub tracked : ImaState → ℤ → ImaState
 tracked t x = afterCode t (codeFor t x)
 

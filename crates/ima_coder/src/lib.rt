@@ -110,11 +110,11 @@ fn real_bytes(
 // Codes two samples, the second from the state after the first.
 fn two_samples(state: ImaState, first: i16, second: i16, table: &[u16; 89]) -> Two
     requires { ⌜ (state .index < 89) × (now table ≡ steps) ⌝ }
-    ensures byte { λ r. ⌜ r .byte ≡ codeFor state first + 16 * codeFor (tracked state first) second ⌝ }
-    ensures first { λ r. ⌜ r .first ≡ isChased state first ⌝ }
-    ensures second { λ r. ⌜ r .second ≡ isChased (tracked state first) second ⌝ }
-    ensures state { λ r. ⌜ r .state ≡ tracked (tracked state first) second ⌝ }
-    ensures index_bound { λ r. ⌜ r .state .index < 89 ⌝ }
+    ensures coded { λ r. ⌜ (r .byte ≡ codeFor state first + 16 * codeFor (tracked state first) second)
+        × (r .first ≡ isChased state first)
+        × (r .second ≡ isChased (tracked state first) second)
+        × (r .state ≡ tracked (tracked state first) second)
+        × (r .state .index < 89) ⌝ }
 {
     let a = encode_code(state, first, table);
     let b = encode_code(a.state, second, table);
@@ -197,10 +197,10 @@ fn channel_bytes(
 // Opens a block of a channel with a sample: puts its header.
 fn open(sample: i16, from: Channel, out: &mut [u8], to: usize) -> Channel
     requires { ⌜ (from .state .index < 89) × (to + 4 ≤ length (now out)) ⌝ }
-    ensures answer { λ r. ⌜ r ≡ openedWith from sample ⌝ }
-    ensures index_bound { λ r. ⌜ r .state .index < 89 ⌝ }
-    ensures chased { λ r. ⌜ r .chased ≡ from .chased ⌝ }
-    ensures buffer { λ r. ⌜ Put (now (out .entry)) to (blockHead sample (from .state .index)) (now (out .exit)) ⌝ }
+    ensures opened { λ r. ⌜ (r ≡ openedWith from sample)
+        × (r .state .index < 89)
+        × (r .chased ≡ from .chased)
+        × Put (now (out .entry)) to (blockHead sample (from .state .index)) (now (out .exit)) ⌝ }
 {
     let index = from.state.index;
     samples::put_sample(out, to, sample);
@@ -218,13 +218,13 @@ fn open(sample: i16, from: Channel, out: &mut [u8], to: usize) -> Channel
 // Opens a block of both channels.
 fn open_both(left: i16, right: i16, from: Channels, out: &mut [u8], to: usize) -> Channels
     requires { ⌜ (from .left .state .index < 89) × (from .right .state .index < 89) × (to + 8 ≤ length (now out)) ⌝ }
-    ensures left { λ r. ⌜ r .left ≡ openedWith (from .left) left ⌝ }
-    ensures right { λ r. ⌜ r .right ≡ openedWith (from .right) right ⌝ }
-    ensures left_index_bound { λ r. ⌜ r .left .state .index < 89 ⌝ }
-    ensures right_index_bound { λ r. ⌜ r .right .state .index < 89 ⌝ }
-    ensures left_chased { λ r. ⌜ r .left .chased ≡ from .left .chased ⌝ }
-    ensures right_chased { λ r. ⌜ r .right .chased ≡ from .right .chased ⌝ }
-    ensures buffer { λ r. ⌜ Put (now (out .entry)) to (blockHead left (from .left .state .index) ++ blockHead right (from .right .state .index)) (now (out .exit)) ⌝ }
+    ensures opened { λ r. ⌜ (r .left ≡ openedWith (from .left) left)
+        × (r .right ≡ openedWith (from .right) right)
+        × (r .left .state .index < 89)
+        × (r .right .state .index < 89)
+        × (r .left .chased ≡ from .left .chased)
+        × (r .right .chased ≡ from .right .chased)
+        × Put (now (out .entry)) to (blockHead left (from .left .state .index) ++ blockHead right (from .right .state .index)) (now (out .exit)) ⌝ }
 {
     let l = open(left, from.left, out, to);
     let r = open(right, from.right, out, to + 4);

@@ -1,4 +1,4 @@
--- Laws of whole blocks: their frames are the samples of the headers and what is msHeard of the nibbles. Assumes nothing.
+-- Laws of whole blocks: their frames are the samples of the headers and what is heard of the nibbles. Assumes nothing.
 use mathlib.Core.Path.{_≡_, refl, sym, ap, _∙_}
 use mathlib.Core.Bool.{true}
 use mathlib.Core.List.{List, [], _∷_}

@@ -1,4 +1,4 @@
--- Laws of the loops over the highFirst of a block: what the next byte gives, and that every turn writes it. Assumes nothing.
+-- Laws of the loops over the nibbles of a block: what the next byte gives, and that every turn writes it. Assumes nothing.
 use mathlib.Core.Path.{_≡_, refl, sym, ap, _∙_}
 use mathlib.Core.List.{List, [], _∷_, _++_}
 use Prim.Native.Nat.{ℕ, suc, _+_, _-_, _*_, _^_, _/_, _%_, _≤_, _<_}
@@ -39,7 +39,7 @@ oneOf s n t i = inTurn 1 n (msHeard t (highFirst (drop i s)) ∷ [])
 abbrev wholeOf : List ℕ → ℕ → MsState → List ℤ
 wholeOf s n t = inTurn 1 n (msHeard t (channelNibbles 1 s 0) ∷ [])
 
--- what is msHeard of byte i
+-- what is heard of byte i
 byte-next : (t : MsState) (s : List ℕ) (i : ℕ) → i < length s
     → msHeard t (highFirst (drop i s))
     ≡ highOf t (getD s i 0) .newer ∷ lowOf t (getD s i 0) .newer ∷ msHeard (lowOf t (getD s i 0)) (highFirst (drop (i + 1) s))
@@ -131,7 +131,7 @@ pub ruleset single =
 abbrev bothOf : List ℕ → ℕ → MsState → MsState → ℕ → List ℤ
 bothOf s n l r i = inTurn 1 n (msHeard l (drop i (channelNibbles 2 s 0)) ∷ msHeard r (drop i (channelNibbles 2 s 1)) ∷ [])
 
--- what is msHeard of nibble i of a channel
+-- what is heard of nibble i of a channel
 nibble-next : (t : MsState) (ks : List ℕ) (i k : ℕ) {u : MsState} → i < length ks → getD ks i 0 ≡ k → u ≡ afterNibble t k
     → msHeard t (drop i ks) ≡ u .newer ∷ msHeard u (drop (i + 1) ks)
 unfolding msHeard through

@@ -1,4 +1,4 @@
--- Laws of the highFirst of a block: where those of each channel stand, and how many there are. Assumes nothing.
+-- Laws of the nibbles of a block: where those of each channel stand, and how many there are. Assumes nothing.
 use mathlib.Core.Path.{_≡_, refl, ap, _∙_}
 use mathlib.Core.List.{List, [], _∷_}
 use Prim.Native.Nat.{ℕ, zero, suc, _+_, _-_, _*_, _/_, _%_, _≤_, _<_}
@@ -9,7 +9,7 @@ use lib.Seq.{getD-drop}
 use Rattle.lists.proofs.Turns.{picked-one-at, picked-one-long, picked-all}
 use Rattle.ms_block.specs.Block.{highFirst, channelNibbles}
 
--- ---- the highFirst of bytes
+-- ---- the nibbles of bytes
 nibbles-long : (s : List ℕ) → length (highFirst s) ≡ length s * 2
 unfolding highFirst
 nibbles-long [] = refl
@@ -31,7 +31,7 @@ low-at (b ∷ s) (suc i) h =
     let e : 1 + 2 * suc i ≡ suc (suc (1 + 2 * i)) = omega arith in
     ap (λ (k : ℕ). getD (highFirst (b ∷ s)) k 0) e ∙ low-at s i (omega arith)
 
--- ---- how many highFirst a channel has
+-- ---- how many nibbles a channel has
 module _ (c : ℕ) (s : List ℕ) (ch : ℕ) (h : ch < c) where
   -- the last one is within the block
   within : ch + c * ((length s - 7 * c) * 2 / c) + 1 ≤ length (highFirst (drop (7 * c) s)) + c
@@ -47,7 +47,7 @@ module _ (c : ℕ) (s : List ℕ) (ch : ℕ) (h : ch < c) where
   unfolding channelNibbles
   channel-at i g = picked-one-at c (highFirst (drop (7 * c) s)) ch ((length s - 7 * c) * 2 / c) i 0 within g
 
--- ---- mono: all highFirst behind the header
+-- ---- mono: all nibbles behind the header
 pub channel-one : (s : List ℕ) → channelNibbles 1 s 0 ≡ highFirst (drop 7 s)
 unfolding channelNibbles
 channel-one s =

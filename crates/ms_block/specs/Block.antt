@@ -1,4 +1,4 @@
--- A Microsoft block: the header and the highFirst of each channel, and its sound. Assumes nothing.
+-- A Microsoft block: the header and the nibbles of each channel, and its sound. Assumes nothing.
 use Prim.Native.Nat.{ℕ, _+_, _-_, _*_, _/_, _%_}
 use mathlib.Core.Bool.{Bool}
 use mathlib.Core.List.{List, [], _∷_, map}
@@ -40,20 +40,20 @@ msOpened c b ch =
       older = sampleAt b (5 * c + 2 * ch);
     }
 
--- the highFirst of bytes, high nibble first
+-- the nibbles of bytes, high nibble first
 unfoldable pub highFirst : List ℕ → List ℕ
 highFirst [] = []
 highFirst (b ∷ bs) = b / 16 ∷ b % 16 ∷ highFirst bs
 
--- the highFirst of channel ch: behind the headers one of each channel stands in turn, so in stereo the high one is left
+-- the nibbles of channel ch: behind the headers one of each channel stands in turn, so in stereo the high one is left
 unfoldable pub channelNibbles : ℕ → List ℕ → ℕ → List ℕ
 channelNibbles c b ch = picked 1 c (highFirst (drop (7 * c) b)) ch ((length b - 7 * c) * 2 / c)
 
--- what is msHeard of highFirst from a state on
+-- what is heard of nibbles from a state on
 unfoldable pub msHeard : MsState → List ℕ → List ℤ
 msHeard t ks = map (λ s. s .newer) (through afterNibble t ks)
 
--- the sound of channel ch: output the older, then the newer, then what is msHeard of its highFirst
+-- the sound of channel ch: output the older, then the newer, then what is heard of its nibbles
 unfoldable pub msSound : ℕ → List ℕ → ℕ → List ℤ
 msSound c b ch = msOpened c b ch .older ∷ msOpened c b ch .newer ∷ msHeard (msOpened c b ch) (channelNibbles c b ch)
 

@@ -1,4 +1,4 @@
--- What a file that is contentBy keeps, by the verdict on its chunks; and what a file holds, in the words of callers. Assumes nothing.
+-- What a file that is taken keeps, by the verdict on its chunks; and what a file holds, in the words of callers. Assumes nothing.
 use mathlib.Core.Path.{_≡_, refl, sym, ap, _∙_, subst}
 use mathlib.Core.Bool.{Bool, true, false, cond, _&&_}
 use mathlib.Core.List.{List}
@@ -29,7 +29,7 @@ both : (a b : Bool) → valid a b ≡ true → (a ≡ true) × (b ≡ true)
 unfolding valid
 both a b e = and-both a b e
 
--- ---- a file that is contentBy: where its chunks stand, and what they say
+-- ---- a file that is taken: where its chunks stand, and what they say
 pub record Held (s : List ℕ) (m : Record) (w : List ℕ) : Type 0 where
   pub places : Directory
   pub walked : directoryOf s ≡ Whole places

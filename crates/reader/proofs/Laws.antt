@@ -99,7 +99,7 @@ module _ (s : List ℕ) {w : Walked} (e : w ≡ directoryOf s) where
   unfolding reading
   spot-whole f g = g ∙ spot-by (ap (λ (c : Content). readingOf c .verdict) (content-by f)) f
 
--- a directory's sound stands where it says, if its chunks are contentBy
+-- a directory's sound stands where it says, if its chunks are taken
 module _ (d : Directory) {x y : Reading} (e : x ≡ y) where
   pub spot-refused : {r : Refusal} → x .verdict ≡ Refused r → Missing ≡ spotBy (y .verdict) (Whole d)
   spot-refused h = ap (λ (v : Verdict). spotBy v (Whole d)) (sym h ∙ ap (λ (z : Reading). z .verdict) e)

@@ -101,7 +101,7 @@ fileFormat s = reading s .made .format
 abbrev pub fileFrames : List ℕ → ℕ
 fileFrames s = reading s .made .frames .0
 
--- where the sound stands: at the data of `data` where the file is contentBy
+-- where the sound stands: at the data of `data` where the file is accepted
 abbrev pub spotBy : Verdict → Walked → Spot
 spotBy Accepted (Whole d) = d .sound
 spotBy Accepted (Stopped r) = Missing

@@ -18,7 +18,7 @@ use Rattle.rules.specs.declared.Record.{Record}
 use Rattle.rules.specs.Rules.{formatValid, factValid, cuesValid, playsValid, blank}
 use Rattle.reader.specs.Content.{formatPart, soundSize, factPart, cuePart, playlistPart, recordAt, contentBy, contentOf, reading, soundSpot, soundIn}
 
--- ---- the number that a file gets, in the order of checks and the numbers of document 01; 0 is contentBy
+-- ---- the number that a file gets, in the order of checks and the numbers of document 01; 0 is taken
 
 -- 4 to 7 as the walk says; then 8 to 13 by number
 abbrev pub chunkNumber : List ℕ → Walked → ℕ

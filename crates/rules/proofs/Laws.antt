@@ -33,7 +33,7 @@ module _ (form rule : Bool) {x : Bool} (e : x ≡ form) where
 
 pub ruleset fineness = (fine-no, fine-yes)
 
--- ---- the record and a refused readingBy
+-- ---- the record and a refused answer
 pub blank-made : {c : Cues} {p : Playlist} → c ≡ noCues → p ≡ noPlays
     → record {
       format = record { tag = 0; channels = 0; rate = 0; bits = 0; align = 0; samples = 0 };
@@ -100,7 +100,7 @@ module _ {a b d i j : Bool} {v : Verdict} (h : v ≡ inOrder a b d i j) where
 
 pub ruleset ordering = (of-chunks, of-record)
 
--- ---- the readingBy
+-- ---- the answer
 module _ (fmt : List ℕ) (n : BytePlace) (fact cue plst : List ℕ) {m : Record} (e : m ≡ recordOf fmt n fact cue plst) {v : Verdict} (f : v ≡ verdictOf fmt n fact cue plst m) where
   judged-as : readingBy v m ≡ judged fmt n fact cue plst
   unfolding judged

@@ -1,4 +1,4 @@
--- The new side and the addedBy, in the words of the code. Assumes nothing.
+-- The new side and the answer, in the words of the code. Assumes nothing.
 use mathlib.Core.Path.{_≡_, refl, sym, ap, _∙_}
 use mathlib.Core.Bool.{Bool, true, false}
 use mathlib.Core.List.{List, [], _++_}

@@ -1,4 +1,4 @@
--- What an addedBy of adding says, both ways: a song is taken exactly where each demand is met, and then the new file is written.
+-- What an answer of adding says, both ways: a song is taken exactly where each demand is met, and then the new file is written.
 -- Assumes nothing.
 use mathlib.Core.Path.{_≡_, refl, ap}
 use mathlib.Core.Bool.{Bool, true, false, cond}

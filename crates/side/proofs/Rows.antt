@@ -1,4 +1,4 @@
--- The number of an addedBy: each demand of the verdict is a row of the table, and the rules of writing never refuse a song that has
+-- The number of an answer: each demand of the verdict is a row of the table, and the rules of writing never refuse a song that has
 -- met them all. Assumes nothing.
 use mathlib.Core.Path.{_≡_, refl, sym, ap, _∙_}
 use mathlib.Core.Bool.{Bool, true, false, not, cond, _&&_, _||_}

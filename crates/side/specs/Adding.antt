@@ -78,14 +78,14 @@ newSound s t = soundIn s ++ soundIn t
 unfoldable pub newFile : List ℕ → List ℕ → Donation → List ℕ
 newFile s t number = fileOf (newRecord s t number) (newSound s t)
 
--- ---- the addedBy, with room for so many bytes
+-- ---- the answer, with room for so many bytes
 
--- writing's addedBy, told as adding's
+-- writing's answer, told as adding's
 abbrev pub told : Written → Added
 told (written.Bytes n) = Bytes n
 told (written.Refused r) = Refused r
 
--- the verdict's refusal, or else writing's addedBy
+-- the verdict's refusal, or else writing's answer
 abbrev pub addedBy : Verdict → Written → Added
 addedBy verdict.Accepted x = told x
 addedBy (verdict.Refused r) x = Refused r
@@ -101,7 +101,7 @@ abbrev pub holding : Added → List ℕ → List ℕ → List ℕ
 holding (Bytes n) ys d = front ys d
 holding (Refused r) ys d = d
 
--- the number of an addedBy: 0 where the song is added
+-- the number of an answer: 0 where the song is added
 abbrev pub addedNumber : Added → ℕ
 addedNumber (Bytes n) = 0
 addedNumber (Refused r) = numberOf r

@@ -32,7 +32,7 @@ use Rattle.writer.proofs.Settling.{settled-says}
 use Rattle.writer.proofs.Back.{content-back}
 use Rattle.writer.proofs.Room.{not-longer}
 
--- ---- what an writtenBy says of the verdict
+-- ---- what an answer says of the verdict
 module _ (m : Record) (w : List ℕ) (room : ℕ) where
   pub bytes-say : (n : BytePlace) → writing m w room ≡ Bytes n → settled m w room ≡ Accepted
   unfolding writing
@@ -57,7 +57,7 @@ content-written m w room n h e =
     let s = settled-says m w room (bytes-say m w room n e) in
     content-back m w h (no-fault (s .rules)) (s .limit) ∙ ap (λ (v : Verdict). contentBy v (recordKept m) w) (record-taken (s .rules))
 
--- the length that an writtenBy tells
+-- the length that an answer tells
 told-long : (v : Verdict) (n k : BytePlace) → writtenBy v k ≡ Bytes n → n ≡ k
 told-long Accepted n k e = cc
 told-long (Refused r) n k e = let z : _≡_ {A = ℕ} 0 1 = cc in absurd (omega arith)

@@ -1,4 +1,4 @@
--- The whole file is put in three runs, the sound last; and the writtenBy in the words of the code, for a sound in two parts or in one. Assumes nothing.
+-- The whole file is put in three runs, the sound last; and the answer in the words of the code, for a sound in two parts or in one. Assumes nothing.
 use mathlib.Core.Path.{_≡_, refl, sym, ap, _∙_}
 use mathlib.Core.Bool.{Bool, true, false, cond}
 use mathlib.Core.List.{List, [], _∷_, _++_, append-assoc, append-nil}
@@ -112,7 +112,7 @@ module _ (m : Record) (w : List ℕ) (room : ℕ) (s : settled m w room ≡ Acce
 
 pub ruleset filing = (size-least, size-fits, opening-room, tables-room, sound-room, file-put, sound-limit, format-kept)
 
--- ---- the writtenBy
+-- ---- the answer
 module _ (m : Record) (w d : List ℕ) {v : Verdict} (e : v ≡ settled m w (length d)) where
   pub asked : v ≡ Accepted → settled m w (length d) ≡ Accepted
   asked f = sym e ∙ f

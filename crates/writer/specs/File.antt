@@ -78,7 +78,7 @@ beforeRoom m w =
 unfoldable pub settled : Record → List ℕ → ℕ → Verdict
 settled m w room = andThen (beforeRoom m w) (demand (leb (length (fileOf m w)) room) OutputTooSmall verdict.Accepted)
 
--- ---- the writtenBy, with room for so many bytes
+-- ---- the answer, with room for so many bytes
 
 abbrev pub writtenBy : Verdict → BytePlace → Written
 writtenBy verdict.Accepted n = Bytes n
@@ -92,7 +92,7 @@ abbrev pub holding : Written → List ℕ → List ℕ → List ℕ
 holding (Bytes n) ys d = front ys d
 holding (Refused r) ys d = d
 
--- the number of an writtenBy: 0 where the file is written
+-- the number of an answer: 0 where the file is written
 abbrev pub writtenNumber : Written → ℕ
 writtenNumber (Bytes n) = 0
 writtenNumber (Refused r) = numberOf r
