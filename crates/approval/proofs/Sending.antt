@@ -8,6 +8,7 @@ use native.Mathlib.Nat.{mul-comm, mul-left-comm, mul-add, mul-le-mul-left, div-m
 use native.Mathlib.Omega.{arith}
 use lib.IntN.{ℤ}
 use lib.ListN.{length, getD, replicate, length-replicate, getD-replicate, List·getD-eq-default}
+use Rattle.units.specs.Refusals.{fileLimit}
 use Rattle.samples.proofs.Signed.{by-ltb}
 use Rattle.units.specs.declared.BytePlace.{BytePlace}
 use Rattle.units.specs.declared.Frames.{Frames}
@@ -64,7 +65,7 @@ module _ (c rate a : ℕ) (frames : Frames) where
       }
 
   -- a record that keeps the rules fits its fields
-  pub record-fits : {n : BytePlace} → Writable (approvalRecord c rate a frames) n → n .0 ≤ 1073741824
+  pub record-fits : {n : BytePlace} → Writable (approvalRecord c rate a frames) n → n .0 ≤ fileLimit
       → RecordFits (approvalRecord c rate a frames)
   record-fits {n} k l =
       let m = approvalRecord c rate a frames in
@@ -114,5 +115,5 @@ module _ (s : List ℤ) (c rate a : ℕ) (w : Codable c a) where
       let l : length bytes ≡ b * a = sound-long w s in
       omega (arith, spare, w .most, mul-left-comm b c p, mul-add c f p, mul-comm f c, div-mul-le-self (length s) c)
 
-  pub file-below : length s ≤ 536870912 → length (fileOf (recordFor s c rate a) bytes) ≤ 1073741824
+  pub file-below : length s ≤ 536870912 → length (fileOf (recordFor s c rate a) bytes) ≤ fileLimit
   file-below h = omega (arith, file-long, sound-bound)

@@ -4,6 +4,7 @@ use mathlib.Core.Bool.{true}
 use Prim.Native.Nat.{ℕ, _-_, _*_, _≤_, _<_}
 use native.Mathlib.Nat.{mul-le-mul-left, div-le-self, div-mul-le-self, mul-left-comm}
 use native.Mathlib.Omega.{arith}
+use Rattle.units.specs.Refusals.{fileLimit}
 use Rattle.units.specs.declared.BytePlace.{BytePlace}
 use Rattle.units.specs.declared.Frames.{Frames}
 use Rattle.formats.specs.declared.Format.{Format}
@@ -49,7 +50,7 @@ module _ (f : Format) (e : formatRule f ≡ true) where
 
 -- at most two frames in a byte
 pub frames-bound : (f : Format) (n : BytePlace) (frames : Frames) → formatRule f ≡ true → framesRule f n frames ≡ true
-    → n .0 ≤ 1073741824 → frames .0 < 4294967296
+    → n .0 ≤ fileLimit → frames .0 < 4294967296
 unfolding blocksIn
 frames-bound f n frames e g h =
     let b : ℕ = blocksIn f n in

@@ -3,8 +3,9 @@
 //
 // `u16_at` and `u32_at` are for callers that have tested the room; `u16_or_zero` and `u32_or_zero`
 // take every place, and what lies past the end counts as 0.
+use units::BytePlace;
 ghost use mathlib.Core.Path.{_≡_};
-ghost use Prim.Native.Nat.{_+_, _≤_, _<_};
+ghost use Prim.Native.Nat.{_+_, _≤_, _<_, min};
 ghost use lib.ListN.{length, take, drop, getD};
 ghost use Rattle.little.specs.Numbers.{numberAt, bytesOf};
 ghost use Rattle.little.specs.Writing.{Put};
@@ -231,4 +232,22 @@ pub fn same_bytes(a: &[u8], b: &[u8]) -> bool
         i += 16;
     }
     same_few(a, b, i)
+}
+
+// The n bytes from a place on, or as many as there are: that very part of what is lent.
+pub fn bytes_from(bytes: &[u8], from: BytePlace, n: BytePlace) -> &[u8]
+    ensures part { λ r. ⌜ now r ≡ take (n .0) (drop (from .0) (now (bytes .entry))) ⌝ }
+    ensures lent { λ r. ⌜ r .ptr .0 ≡ bytes .entry .ptr .0 ⌝ }
+    ensures place { λ r. ⌜ r .ptr .1 ≡ bytes .entry .ptr .1 + min (from .0) (length (now (bytes .entry))) ⌝ }
+{
+    let length = bytes.len();
+    let start = from.0;
+    let most = n.0;
+    if length <= start {
+        return &bytes[length..];
+    }
+    if length - start <= most {
+        return &bytes[start..];
+    }
+    &bytes[start..start + most]
 }

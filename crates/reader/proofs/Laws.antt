@@ -6,6 +6,7 @@ use Prim.Native.Nat.{ℕ, _≤_, _<_}
 use native.Mathlib.Omega.{arith}
 use lib.ListN.{length, length-take, length-drop}
 use borrow.Author.Tests.{not-true, not-false}
+use Rattle.units.specs.Refusals.{fileLimit}
 use Rattle.units.specs.declared.Refusal.{Refusal}
 use Rattle.units.specs.declared.Refusal.the-variants.{FormatOrDataMissing}
 use Rattle.units.specs.declared.Verdict.{Verdict}
@@ -65,7 +66,7 @@ pub read-judged : (s : List ℕ) (d : Directory) {fmt w fact cue plst : List ℕ
 unfolding judged
 read-judged s d h i j k l m n = n ∙ simp (h, i, j, k, l, m)
 
-pub part-fits : (s : List ℕ) (spot : Spot) {w : List ℕ} → length s ≤ 1073741824 → w ≡ partOf s spot [] → length w < 4294967296
+pub part-fits : (s : List ℕ) (spot : Spot) {w : List ℕ} → length s ≤ fileLimit → w ≡ partOf s spot [] → length w < 4294967296
 part-fits s (At p) h e = simp (e, length-take, length-drop) (omega arith)
 part-fits s Missing h e = simp e (omega arith)
 

@@ -13,6 +13,7 @@ ghost use mathlib.Core.Path.{_≡_};
 ghost use Prim.Native.Nat.{_≤_};
 ghost use mathlib.Core.Bool.{cond};
 ghost use lib.ListN.{length};
+ghost use Rattle.units.specs.Refusals.{fileLimit};
 ghost use Rattle.formats.specs.Frames.{needsFact};
 ghost use Rattle.riff.specs.Walk.{partOf};
 ghost use Rattle.rules.specs.Rules.{readingBy};
@@ -44,7 +45,7 @@ fn fact_part<'a>(
 // What the chunks of a file say, and the verdict on it. Four zeros are a count of 0: an absent table
 // is read as an empty one.
 fn read_parts(file: &[u8], places: Directory) -> Reading
-    requires { ⌜ length (now file) ≤ 1073741824 ⌝ }
+    requires { ⌜ length (now file) ≤ fileLimit ⌝ }
     ensures answer { λ r. ⌜ r ≡ readingBy (verdictAt (now (file .entry)) places) (recordAt (now (file .entry)) places) ⌝ }
 {
     let format_spot = places.format;
@@ -63,7 +64,7 @@ fn read_parts(file: &[u8], places: Directory) -> Reading
 
 // What a file with these chunks says.
 fn read_chunks(file: &[u8], places: Directory) -> Reading
-    requires { ⌜ length (now file) ≤ 1073741824 ⌝ }
+    requires { ⌜ length (now file) ≤ fileLimit ⌝ }
     ensures answer { λ r. ⌜ r ≡ readingOf (contentAt (now (file .entry)) places) ⌝ }
 {
     let format = places.format;
@@ -79,7 +80,7 @@ fn read_chunks(file: &[u8], places: Directory) -> Reading
 
 // The same, and where the sound data stand; of a refused file, nowhere.
 fn open_chunks(file: &[u8], places: Directory) -> Opened
-    requires { ⌜ length (now file) ≤ 1073741824 ⌝ }
+    requires { ⌜ length (now file) ≤ fileLimit ⌝ }
     ensures answer { λ r. ⌜ r .answer ≡ readingOf (contentAt (now (file .entry)) places) ⌝ }
     ensures sound { λ r. ⌜ r .sound ≡ spotBy (readingOf (contentAt (now (file .entry)) places) .verdict) (Whole places) ⌝ }
 {

@@ -5,6 +5,7 @@ use mathlib.Core.List.{List}
 use Prim.Native.Nat.{ℕ, _+_, _%_, _≤_, _<_}
 use lib.ListN.{length}
 use borrow.Author.Tests.{not-true, not-false}
+use Rattle.units.specs.Refusals.{fileLimit}
 use Rattle.little.specs.Numbers.{numberAt}
 use Rattle.little.proofs.Tests.{tests}
 use Rattle.codes.specs.Codes.{isAt}
@@ -19,11 +20,11 @@ module _ (s : List ℕ) where
   head-short h = simp tests
 
   module _ (h : 12 ≤ length s) where
-    pub head-long : 1073741824 < length s → Refused LengthOutOfRange ≡ headVerdict s
+    pub head-long : fileLimit < length s → Refused LengthOutOfRange ≡ headVerdict s
     unfolding headVerdict
     head-long g = simp tests
 
-    module _ (g : length s ≤ 1073741824) {a : Bool} (e : a ≡ isAt s 0 code.Riff) where
+    module _ (g : length s ≤ fileLimit) {a : Bool} (e : a ≡ isAt s 0 code.Riff) where
       pub head-no-riff : a ≡ false → Refused NotWave ≡ headVerdict s
       unfolding headVerdict
       head-no-riff t = simp (tests, sym e ∙ t)

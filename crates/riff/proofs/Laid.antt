@@ -6,6 +6,7 @@ use mathlib.Core.List.{List, [], _∷_, _++_, append-assoc}
 use Prim.Native.Nat.{ℕ, _+_, _%_, _≤_}
 use native.Mathlib.Omega.{arith}
 use lib.ListN.{length, drop, length-drop}
+use Rattle.units.specs.Refusals.{fileLimit}
 use Rattle.little.specs.Numbers.{numberAt, bytesOf}
 use Rattle.little.proofs.Reading.{length-bytes}
 use Rattle.codes.specs.Codes.{codeBytes}
@@ -50,7 +51,7 @@ module _ (ps : List Piece) where
   after-wave : drop 12 file ≡ bodyBytes ps
   after-wave = behind file 8 (codeBytes Wave) _ 4 (length-code Wave) after-size
 
-  accepted : length file ≤ 1073741824 → Accepted ≡ headVerdict file
+  accepted : length file ≤ fileLimit → Accepted ≡ headVerdict file
   accepted limit =
       let l = length-file ps in
       let n : size ≡ numberAt 4 file 4 = sym (number-laid file 4 size _ (omega arith) after-riff) in
@@ -70,7 +71,7 @@ stand-ends : {s : List ℕ} {at : ℕ} {d : Directory} → Stand s at d [] → W
 unfolding bodyBytes
 stand-ends {s} {at} w = walk-ends (w .rest) (omega (arith, length-drop at s, ap length (w .left)))
 
-module _ (s : List ℕ) (limit : length s ≤ 1073741824) {R : Type 0} where
+module _ (s : List ℕ) (limit : length s ≤ fileLimit) {R : Type 0} where
   -- the next chunk is met
   stand-on : {at : ℕ} {d : Directory} (c : Code) (bytes : List ℕ) {ps : List Piece} → Stand s at d (piece c bytes ∷ ps)
       → spotOf d (kindOf c) ≡ Missing → early d (kindOf c) ≡ false → ((p : Place) → waveList s p (kindOf c) ≡ false)
@@ -105,7 +106,7 @@ module _ (s : List ℕ) (limit : length s ≤ 1073741824) {R : Type 0} where
       by false v go = go at Missing (λ absent. refl) v
 
 -- ---- the chunks of a WAVE file, in the order of writing
-pub laid-reads : (p : Parts) → length (fileBytes (piecesOf p)) ≤ 1073741824 → Reads (fileBytes (piecesOf p)) p
+pub laid-reads : (p : Parts) → length (fileBytes (piecesOf p)) ≤ fileLimit → Reads (fileBytes (piecesOf p)) p
 unfolding piecesOf
 laid-reads p limit =
     let s : List ℕ = fileBytes (piecesOf p) in

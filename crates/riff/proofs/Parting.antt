@@ -1,4 +1,4 @@
--- A part of a file that may pass its end, in the code's three cases; and what the data of a chunk has of the file. Assumes nothing.
+-- What the data of a chunk has of the file. Assumes nothing.
 use mathlib.Core.Path.{_≡_, sym, ap, _∙_}
 use mathlib.Core.List.{List, []}
 use Prim.Native.Nat.{ℕ, _+_, _-_, _≤_}
@@ -13,21 +13,6 @@ use Rattle.riff.specs.declared.Spot.{Spot}
 use Rattle.riff.specs.declared.Spot.the-variants.{At, Missing}
 use Rattle.riff.specs.declared.Place.{Place}
 use Rattle.riff.specs.Walk.{partOf}
-
-module _ (s : List ℕ) (from n : ℕ) where
-  pub bytes-none : length s ≤ from → [] ≡ take n (drop from s)
-  bytes-none h = sym (ap (take n) (drop-of-length-le s h) ∙ take-nil n)
-
-  pub bytes-rest : length s - from ≤ n → take (length s - from) (drop from s) ≡ take n (drop from s)
-  bytes-rest h =
-      let l : length (drop from s) ≤ length s - from = simp length-drop (omega arith) in
-      let m : length (drop from s) ≤ n = omega arith in
-      take-all (length s - from) (drop from s) l ∙ sym (take-all n (drop from s) m)
-
-  pub bytes-inside : take (from + n - from) (drop from s) ≡ take n (drop from s)
-  bytes-inside = ap (λ (k : ℕ). take k (drop from s)) (add-sub-cancel-left from n)
-
-pub ruleset parting = (bytes-none, bytes-rest, bytes-inside)
 
 pub part-there : (s : List ℕ) {spot : Spot} (absent : List ℕ) {p : Place} {r : List ℕ} → spot ≡ At p
     → r ≡ take (p .size .0) (drop (p .start .0) s) → r ≡ partOf s spot absent

@@ -7,6 +7,7 @@ use native.Mathlib.Omega.{arith}
 use lib.Dec.{ltb}
 use lib.ListN.{length}
 use borrow.Author.Tests.{lt-ltb, le-ltb, ltb-true, ltb-false}
+use Rattle.units.specs.Refusals.{fileLimit}
 use Rattle.units.specs.declared.BytePlace.{BytePlace}
 use Rattle.units.specs.declared.Refusal.{Refusal}
 use Rattle.units.specs.declared.Refusal.the-variants.{LengthOutOfRange, ChunkPastTheEnd, SecondOfItsKind, DataBeforeFormat, WaveList}
@@ -145,7 +146,7 @@ pub ruleset opening = (open-walks, open-refused)
 pub too-short : (s : List ℕ) → length s < 12 → directoryOf s ≡ Stopped LengthOutOfRange
 too-short s h = sym (open-refused s refl (sym (head-short s h)))
 
-pub too-long : (s : List ℕ) → 1073741824 < length s → directoryOf s ≡ Stopped LengthOutOfRange
+pub too-long : (s : List ℕ) → fileLimit < length s → directoryOf s ≡ Stopped LengthOutOfRange
 too-long s h = sym (open-refused s refl (sym (head-long s (omega arith) h)))
 
 module _ (s : List ℕ) {w : Walked} {d : Directory} (e : w ≡ directoryOf s) (f : w ≡ Whole d) where
@@ -162,5 +163,5 @@ module _ (s : List ℕ) {w : Walked} {d : Directory} (e : w ≡ directoryOf s) (
   pub whole-long : 12 ≤ length s
   whole-long = not-stopped (length s) 12 (too-short s)
 
-  pub whole-limit : length s ≤ 1073741824
-  whole-limit = not-stopped 1073741824 (length s) (too-long s)
+  pub whole-limit : length s ≤ fileLimit
+  whole-limit = not-stopped fileLimit (length s) (too-long s)

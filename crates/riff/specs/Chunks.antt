@@ -4,6 +4,7 @@ use mathlib.Core.Bool.{Bool, true, false, not, cond, _&&_, _||_}
 use mathlib.Core.List.{List}
 use lib.Dec.{ltb, leb, eqb}
 use lib.ListN.{length}
+use Rattle.units.specs.Refusals.{fileLimit}
 use Rattle.little.specs.Numbers.{numberAt}
 use Rattle.codes.specs.Codes.{isAt}
 use Rattle.codes.specs.declared.Code.the-variants as code
@@ -24,7 +25,7 @@ use Rattle.riff.specs.declared.Directory.{Directory}
 
 -- length under 12 or over the limit
 abbrev pub badLength : List ℕ → Bool
-badLength s = ltb (length s) 12 || ltb 1073741824 (length s)
+badLength s = ltb (length s) 12 || ltb fileLimit (length s)
 
 -- bytes 0-3 not `RIFF` or 8-11 not `WAVE`
 abbrev pub noWave : List ℕ → Bool

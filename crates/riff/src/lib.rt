@@ -14,9 +14,6 @@ ghost use Rattle.riff.specs.Chunks.{headVerdict, kindAt, placeAt, spotOf
 ghost use Rattle.riff.specs.Walk.{refusalOf, walkOf, directoryOf, partOf};
 ghost use Rattle.riff.specs.Laying.{headBytes, riffBytes};
 
-// The longest file, in bytes.
-pub const LIMIT: usize = 1073741824;
-
 // What a chunk is to the walk.
 pub enum Kind {
     Format,
@@ -70,7 +67,7 @@ fn head(file: &[u8]) -> Verdict
     if file.len() < 12 {
         return Verdict::Refused(Refusal::LengthOutOfRange);
     }
-    if LIMIT < file.len() {
+    if units::LIMIT < file.len() {
         return Verdict::Refused(Refusal::LengthOutOfRange);
     }
     let riff = codes::is_at(file, 0, Code::Riff);
@@ -304,25 +301,12 @@ pub fn chunks(file: &[u8]) -> Walked
     }
 }
 
-// The n bytes of a file from a place, or as many as there are.
-pub fn bytes_from(file: &[u8], from: usize, n: usize) -> &[u8]
-    ensures part { λ r. ⌜ now r ≡ take n (drop from (now (file .entry))) ⌝ }
-{
-    if file.len() <= from {
-        return &file[..0];
-    }
-    if file.len() - from <= n {
-        return &file[from..];
-    }
-    &file[from..from + n]
-}
-
 // A chunk's data, that very part of the file; of a chunk that is missing, what is lent in its place.
 pub fn part<'a>(file: &'a [u8], spot: Spot, absent: &'a [u8]) -> &'a [u8]
     ensures part { λ r. ⌜ now r ≡ partOf (now (file .entry)) spot (now (absent .entry)) ⌝ }
 {
     match spot {
-        Spot::At(place) => bytes_from(file, place.start.0, place.size.0),
+        Spot::At(place) => little::bytes_from(file, place.start, place.size),
         Spot::Missing => absent,
     }
 }

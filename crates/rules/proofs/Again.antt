@@ -5,6 +5,7 @@ use mathlib.Core.List.{List}
 use Prim.Native.Nat.{ℕ, _≤_}
 use lib.Dec.{T}
 use lib.Pow.{areBytes}
+use Rattle.units.specs.Refusals.{fileLimit}
 use Rattle.units.specs.declared.BytePlace.{BytePlace}
 use Rattle.formats.proofs.Bounds.{taken-fits, frames-bound}
 use Rattle.tables.proofs.Again.{cues-fit, plays-fit, cues-kept-read, plays-kept-read}
@@ -16,7 +17,7 @@ module _ (fmt : List ℕ) (n : BytePlace) (fact cue plst : List ℕ) where
   abbrev m : Record
   m = recordOf fmt n fact cue plst
 
-  pub record-fits : T (areBytes cue) → T (areBytes plst) → n .0 ≤ 1073741824 → Writable m n → RecordFits m
+  pub record-fits : T (areBytes cue) → T (areBytes plst) → n .0 ≤ fileLimit → Writable m n → RecordFits m
   unfolding recordOf
   record-fits t u l k =
       record {

@@ -9,6 +9,7 @@ use lib.Dec.{T, eqb}
 use lib.ListN.{length, length-append}
 use lib.Pow.{areBytes}
 use borrow.Author.Tests.{eqb-false, ne-eqb}
+use Rattle.units.specs.Refusals.{fileLimit}
 use Rattle.units.specs.declared.Frames.{Frames}
 use Rattle.formats.specs.declared.Format.{Format}
 use Rattle.writer.specs.File.{sizeOf}
@@ -55,7 +56,7 @@ pub record Ready (s : List ℕ) (xs : List Sent) (limit : Frames) (room : ℕ) :
   pub songs : length (songsIn s) + length xs ≤ 64
   pub frames : fileFrames s + framesSent xs ≤ limit .0
   pub fits : limit .0 < 4294967296
-  pub size : sideSize (fileFormat s) (length (songsIn s) + length xs) (fileFrames s + framesSent xs) ≤ 1073741824
+  pub size : sideSize (fileFormat s) (length (songsIn s) + length xs) (fileFrames s + framesSent xs) ≤ fileLimit
   pub lent : sideSize (fileFormat s) (length (songsIn s) + length xs) (fileFrames s + framesSent xs) ≤ room
 
 -- the first is taken

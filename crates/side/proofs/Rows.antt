@@ -16,7 +16,7 @@ use Rattle.units.specs.declared.Refusal.{Refusal}
 use Rattle.units.specs.declared.Refusal.the-variants.{FormatWrong, SongEmptyOrDifferent, NoPlaceOnSide, AlreadyListed, NotASide}
 use Rattle.units.specs.declared.Verdict.{Verdict}
 use Rattle.units.specs.declared.Verdict.the-variants as verdict
-use Rattle.units.specs.Refusals.{numberOf, demand}
+use Rattle.units.specs.Refusals.{fileLimit, numberOf, demand}
 use Rattle.rules.specs.declared.Record.{Record}
 use Rattle.rules.specs.Rules.{Writable}
 use Rattle.reader.specs.Content.{reading, soundIn, fileFormat, fileFrames}
@@ -81,7 +81,7 @@ told-row (written.Refused r) = refl
 
 written-row : (m : Record) (w : List ℕ) (room : ℕ) → Writable m (sizeOf w)
     → addedNumber (told (writing m w room))
-    ≡ cond (ltb 1073741824 (length (fileOf m w))) 1 (cond (ltb room (length (fileOf m w))) 14 0)
+    ≡ cond (ltb fileLimit (length (fileOf m w))) 1 (cond (ltb room (length (fileOf m w))) 14 0)
 unfolding below.WriteNumbered
 written-row m w room k =
     let e = below-proofs.numbered m w room in
@@ -102,7 +102,7 @@ module _ (s t : List ℕ) (number : Donation) (limit : Frames) (room : ℕ) wher
 
   -- the rows from 1 on, from 17 on, and from a listed number on
   abbrev fromSize : ℕ
-  fromSize = cond (ltb 1073741824 (length (newFile s t number))) 1 (cond (ltb room (length (newFile s t number))) 14 0)
+  fromSize = cond (ltb fileLimit (length (newFile s t number))) 1 (cond (ltb room (length (newFile s t number))) 14 0)
 
   abbrev fromPlace : ℕ
   fromPlace = cond (leb 64 (length (songsIn s)) || ltb (limit .0) (fileFrames s + fileFrames t)) 17 fromSize

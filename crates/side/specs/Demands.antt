@@ -15,7 +15,7 @@ use Rattle.units.specs.declared.Refusal.{Refusal}
 use Rattle.units.specs.declared.Refusal.the-variants.{SongEmptyOrDifferent, AlreadyListed}
 use Rattle.units.specs.declared.Verdict.{Verdict}
 use Rattle.units.specs.declared.Verdict.the-variants as verdict
-use Rattle.units.specs.Refusals.{numberOf}
+use Rattle.units.specs.Refusals.{fileLimit, numberOf}
 use Rattle.formats.specs.declared.Format.{Format}
 use Rattle.reader.specs.Content.{reading, soundIn, fileFormat, fileFrames}
 use Rattle.writer.specs.declared.Written.the-variants as written
@@ -83,7 +83,7 @@ pub record Limited (s : List ℕ) (x : Sent) (limit : Frames) : Type 0 where
   pub songs : length (songsIn (fileWith s x)) ≤ 64
   pub frames : fileFrames (fileWith s x) ≤ limit .0
   pub size : length (fileWith s x) ≡ sideSize (fileFormat s) (length (songsIn s) + 1) (fileFrames s + fileFrames (x .file))
-  pub most : length (fileWith s x) ≤ 1073741824
+  pub most : length (fileWith s x) ≤ fileLimit
 
 unfoldable pub StaysWithin : Type 0
 StaysWithin = (s : List ℕ) (x : Sent) (limit : Frames) (room : ℕ) (n : BytePlace) → Adds s x limit room n → Limited s x limit
@@ -162,7 +162,7 @@ pub record WithinLimits (f : Format) (xs : List Sent) (limit : Frames) (room : �
   pub songs : length xs ≤ 64
   pub frames : framesSent xs ≤ limit .0
   pub fits : limit .0 < 4294967296
-  pub size : sideSize f (length xs) (framesSent xs) ≤ 1073741824
+  pub size : sideSize f (length xs) (framesSent xs) ≤ fileLimit
   pub lent : sideSize f (length xs) (framesSent xs) ≤ room
 
 -- an empty side s then has exactly those songs, in that order
@@ -242,6 +242,6 @@ AddNumbered =
     (cond (eqb (fileFrames t) 0) 16
     (cond (isListed number (songsIn s)) (cond (sameBytes (listedSound number (songsIn s)) (soundIn t)) 18 16)
     (cond (leb 64 (length (songsIn s)) || ltb (limit .0) (fileFrames s + fileFrames t)) 17
-    (cond (ltb 1073741824 (length (newFile s t number))) 1
+    (cond (ltb fileLimit (length (newFile s t number))) 1
     (cond (ltb room (length (newFile s t number))) 14
     0)))))))

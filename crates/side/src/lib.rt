@@ -151,7 +151,11 @@ fn frames_at(format: Format, sound: &[u8], place: Frames, length: Frames) -> &[u
     ensures part { λ r. ⌜ now r ≡ framesAt format (now (sound .entry)) place length ⌝ }
 {
     let frame = format.align as usize;
-    riff::bytes_from(sound, frame * place.0 as usize, frame * length.0 as usize)
+    little::bytes_from(
+        sound,
+        BytePlace(frame * place.0 as usize),
+        BytePlace(frame * length.0 as usize),
+    )
 }
 
 // The sound of the song at index i of a side.

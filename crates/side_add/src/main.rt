@@ -7,6 +7,7 @@
 // to be read again; a new side longer than that is `refused 14`. All is held on the stack, 0.8 MB.
 use files::Input;
 use files::Said;
+use units::BytePlace;
 use wave::Added;
 use wave::Donation;
 use wave::Frames;
@@ -28,7 +29,7 @@ fn keep(number: Donation, file: &[u8]) {
 fn add(side: &[u8], song: &[u8], number: Donation, limit: Frames) {
     let mut out = files::file_room();
     match wave::add(side, song, number, limit, &mut out) {
-        Added::Bytes(size) => keep(number, riff::bytes_from(&out, 0, size.0)),
+        Added::Bytes(size) => keep(number, little::bytes_from(&out, BytePlace(0), size)),
         Added::Refused(refusal) => listing::refused(refusal),
     }
 }
@@ -45,7 +46,12 @@ fn add_to(side: &[u8], number: Donation, limit: Frames) {
     if files::too_long(n) {
         return;
     }
-    add(side, riff::bytes_from(&buffer, 0, n), number, limit);
+    add(
+        side,
+        little::bytes_from(&buffer, BytePlace(0), BytePlace(n)),
+        number,
+        limit,
+    );
 }
 
 // Reads the side.
@@ -54,7 +60,11 @@ fn start(number: Donation, limit: Frames) {
     let Input::Bytes(n) = files::read(b"side_add", 1, &mut buffer) else {
         return;
     };
-    add_to(riff::bytes_from(&buffer, 0, n), number, limit);
+    add_to(
+        little::bytes_from(&buffer, BytePlace(0), BytePlace(n)),
+        number,
+        limit,
+    );
 }
 
 fn main() {

@@ -6,6 +6,10 @@ use Rattle.units.specs.declared.Refusal.the-variants.{LengthOutOfRange, 
 use Rattle.units.specs.declared.Verdict.{Verdict}
 use Rattle.units.specs.declared.Verdict.the-variants.{Accepted, Refused}
 
+-- the limit: a file has at most so many bytes, 1 GiB
+abbrev pub fileLimit : ℕ
+fileLimit = 1073741824
+
 -- the number of a refusal; above each, when it is given, besides where an operation says so
 abbrev pub numberOf : Refusal → ℕ
 -- length under 12 or over the limit

@@ -15,6 +15,9 @@ pub struct BytePlace(pub usize);
 // The number under which a song was donated; cues and playlist entries are named by it.
 pub struct Donation(pub u32);
 
+// The limit: a file has at most so many bytes.
+pub const LIMIT: usize = 1073741824;
+
 // Why an input is refused, in the order of document 01's table.
 pub enum Refusal {
     LengthOutOfRange,

@@ -10,6 +10,7 @@ use crate::entries::label;
 use crate::lent::refused_lines;
 use crate::lent::written_lines;
 use side::Added;
+use units::BytePlace;
 use units::Donation;
 use units::Frames;
 use writer::Written;
@@ -33,7 +34,12 @@ fn again_line(old: &[u8], song: &[u8], number: Donation, limit: Frames) {
 // A new side in a lent buffer, and what comes of the same song again.
 fn added_lines(size: usize, out: &[u8], song: &[u8], number: Donation, limit: Frames) {
     written_lines(size, out);
-    again_line(riff::bytes_from(out, 0, size), song, number, limit);
+    again_line(
+        little::bytes_from(out, BytePlace(0), BytePlace(size)),
+        song,
+        number,
+        limit,
+    );
 }
 
 // Adds a song to a side, in a lent buffer.
@@ -81,8 +87,8 @@ pub fn entry(table: &[u8]) -> usize {
     let at = label(table, 16);
     work_in(
         table,
-        riff::bytes_from(table, at, old),
-        riff::bytes_from(table, at + old, song),
+        little::bytes_from(table, BytePlace(at), BytePlace(old)),
+        little::bytes_from(table, BytePlace(at + old), BytePlace(song)),
     );
     at + old + song
 }

@@ -15,6 +15,7 @@ use decode::Decoded;
 use encode::Coded;
 use encode::Encoded;
 use rules::Record;
+use units::BytePlace;
 use units::Frames;
 use units::Refusal;
 use writer::Written;
@@ -58,7 +59,11 @@ fn written_lines(file: &[u8], coded: Coded, n: usize) {
 // Writes the blocks of a sound of n samples to a lent buffer.
 fn write(made: Record, blocks: &[u8], coded: Coded, n: usize, out: &mut [u8]) {
     match writer::write(made, blocks, out) {
-        Written::Bytes(size) => written_lines(riff::bytes_from(out, 0, size.0), coded, n),
+        Written::Bytes(size) => written_lines(
+            little::bytes_from(out, BytePlace(0), size),
+            coded,
+            n,
+        ),
         Written::Refused(refusal) => refused(b"write ", refusal),
     }
 }
@@ -87,7 +92,12 @@ fn write_in(asked: Asked, blocks: &[u8], coded: Coded, n: usize) {
 pub fn copy_lines(answer: Encoded, asked: Asked, n: usize, out: &[u8]) {
     match answer {
         Encoded::Blocks(coded) => {
-            write_in(asked, riff::bytes_from(out, 0, coded.bytes.0), coded, n)
+            write_in(
+                asked,
+                little::bytes_from(out, BytePlace(0), coded.bytes),
+                coded,
+                n,
+            )
         }
         Encoded::Refused(refusal) => refused(b"encode ", refusal),
     }
@@ -98,7 +108,7 @@ pub fn entry(table: &[u8]) -> usize {
     let rate = little::u32_or_zero(table, 10);
     let at = label(table, 14);
     encode_asked(
-        riff::bytes_from(table, at, size),
+        little::bytes_from(table, BytePlace(at), BytePlace(size)),
         asked_in(table, rate, true),
     );
     at + size

@@ -9,6 +9,7 @@ use crate::lent::count;
 use crate::lent::mixed_line;
 use crate::lent::sound_line;
 use decode::Decoded;
+use units::BytePlace;
 
 // The answer of decoding.
 fn answer_line(answer: Decoded) {
@@ -25,7 +26,7 @@ pub fn heard_line(sound: &[i16]) {
     }
     let mut raw = [0u8; 65536];
     samples::to_pcm16(sound, &mut raw);
-    mixed_line(riff::bytes_from(&raw, 0, 2 * sound.len()));
+    mixed_line(little::bytes_from(&raw, BytePlace(0), BytePlace(2 * sound.len())));
 }
 
 // A lent sound.
@@ -61,6 +62,11 @@ pub fn entry(table: &[u8]) -> usize {
     let room = little::u16_or_zero(table, 8) as usize;
     let size = little::u16_or_zero(table, 10) as usize;
     let at = label(table, 12);
-    decode_in(riff::bytes_from(table, at, size), kind, block, room);
+    decode_in(
+        little::bytes_from(table, BytePlace(at), BytePlace(size)),
+        kind,
+        block,
+        room,
+    );
     at + size
 }

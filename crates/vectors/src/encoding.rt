@@ -9,6 +9,7 @@ use crate::lent::bytes_line;
 use crate::lent::count;
 use encode::Coded;
 use encode::Encoded;
+use units::BytePlace;
 
 // What an entry asks for. A copy goes on with the blocks.
 pub struct Asked {
@@ -38,7 +39,10 @@ fn answer_line(answer: Encoded) {
 // A lent buffer: a number mixed of it, and its first bytes.
 fn buffer_line(out: &[u8]) {
     show::field(b"mixed ", show::mixed_bytes(out));
-    bytes_line(b" starts", riff::bytes_from(out, 0, 32));
+    bytes_line(
+        b" starts",
+        little::bytes_from(out, BytePlace(0), BytePlace(32)),
+    );
 }
 
 // Codes a sound to a lent buffer.
@@ -84,6 +88,9 @@ pub fn asked_in(head: &[u8], rate: u32, copied: bool) -> Asked {
 pub fn entry(table: &[u8]) -> usize {
     let size = little::u16_or_zero(table, 8) as usize;
     let at = label(table, 10);
-    encode_asked(riff::bytes_from(table, at, size), asked_in(table, 0, false));
+    encode_asked(
+        little::bytes_from(table, BytePlace(at), BytePlace(size)),
+        asked_in(table, 0, false),
+    );
     at + size
 }

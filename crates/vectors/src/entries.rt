@@ -1,5 +1,6 @@
 // The parts of an entry. Most are a head, whose first two bytes are the length of the label; the label; and whatever
 // else the head tells of.
+use units::BytePlace;
 ghost use mathlib.Core.Path.{_≡_};
 ghost use Prim.Native.Nat.{_-_, _≤_};
 ghost use lib.ListN.{length};
@@ -20,7 +21,7 @@ pub fn label(table: &[u8], head: u16) -> usize
 {
     let from = head as usize;
     let size = little::u16_or_zero(table, 0) as usize;
-    show::word(riff::bytes_from(table, from, size));
+    show::word(little::bytes_from(table, BytePlace(from), BytePlace(size)));
     show::line();
     from + size
 }

@@ -1,6 +1,7 @@
 // Lent buffers: how much of a sound is lent, and what is printed of a buffer. One of bytes has 16,384 at most, each of
 // which was 170 before; printed are the answer, what was written, and whether the rest is untouched.
 use crate::entries::past;
+use units::BytePlace;
 use units::Refusal;
 ghost use mathlib.Core.Path.{_≡_};
 ghost use Prim.Native.Nat.{_≤_};
@@ -52,7 +53,10 @@ fn rest_line(rest: &[u8]) {
     let n = rest.len();
     show::field(b"rest ", n as u64);
     show::either(
-        check::same(rest, riff::bytes_from(&before, 0, n)),
+        check::same(
+            rest,
+            little::bytes_from(&before, BytePlace(0), BytePlace(n)),
+        ),
         b" untouched",
         b" changed",
     );
@@ -68,6 +72,6 @@ pub fn refused_lines(refusal: Refusal, out: &[u8]) {
 pub fn written_lines(size: usize, out: &[u8]) {
     show::field(b"bytes ", size as u64);
     show::line();
-    file_line(riff::bytes_from(out, 0, size));
+    file_line(little::bytes_from(out, BytePlace(0), BytePlace(size)));
     rest_line(past(out, size));
 }

@@ -1,5 +1,6 @@
 // The numbers at each place of bytes, and what a buffer holds after a piece is put into it.
 use crate::lent::bytes_line;
+use units::BytePlace;
 ghost use Prim.Native.Nat.{_+_, _≤_};
 ghost use lib.ListN.{length};
 
@@ -40,7 +41,7 @@ fn each_place(bytes: &[u8]) {
 
 // An entry is 24 bytes.
 pub fn entry(table: &[u8]) -> usize {
-    each_place(riff::bytes_from(table, 0, 24));
+    each_place(little::bytes_from(table, BytePlace(0), BytePlace(24)));
     24
 }
 
@@ -89,7 +90,12 @@ pub fn put_entry(table: &[u8]) -> usize {
     let n = room as usize;
     let size = little::u16_or_zero(table, 2) as usize;
     let at = little::u16_or_zero(table, 4) as usize;
-    let before = riff::bytes_from(table, 6, n);
-    put_in(before, room, at, riff::bytes_from(table, 6 + n, size));
+    let before = little::bytes_from(table, BytePlace(6), BytePlace(n));
+    put_in(
+        before,
+        room,
+        at,
+        little::bytes_from(table, BytePlace(6 + n), BytePlace(size)),
+    );
     6 + n + size
 }

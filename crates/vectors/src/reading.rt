@@ -7,6 +7,7 @@ use crate::entries::label;
 use riff::Spot;
 use tables::Cue;
 use tables::Cues;
+use units::BytePlace;
 
 // The position of a cue, after a blank.
 fn position(cue: Cue) {
@@ -53,7 +54,7 @@ fn more_line(file: &[u8]) {
 pub fn entry(table: &[u8]) -> usize {
     let at = label(table, 2);
     let size = little::u32_or_zero(table, at) as usize;
-    let file = riff::bytes_from(table, at + 4, size);
+    let file = little::bytes_from(table, BytePlace(at + 4), BytePlace(size));
     listing::list(file);
     more_line(file);
     sound_line(file);

@@ -4,6 +4,7 @@
 // samples and all 256 values of 8-bit sound numbers that are mixed of them in order.
 use crate::lent::bytes_line;
 use crate::lent::sound_line;
+use units::BytePlace;
 
 // A sample as a number from 0 on.
 fn raised(sample: i16) -> u64 {
@@ -108,7 +109,7 @@ fn from_and_back(bytes: &[u8]) {
 
 pub fn entry(table: &[u8]) -> usize {
     let size = little::u16_or_zero(table, 0) as usize;
-    from_and_back(riff::bytes_from(table, 2, size));
+    from_and_back(little::bytes_from(table, BytePlace(2), BytePlace(size)));
     all_held();
     all_samples();
     all_eights();

@@ -12,6 +12,7 @@ use formats::Format;
 use rules::Record;
 use tables::Cues;
 use tables::Playlist;
+use units::BytePlace;
 use units::Frames;
 use units::Verdict;
 use writer::Written;
@@ -66,8 +67,8 @@ fn counted_in(head: &[u8], cue: &[u8], plst: &[u8]) -> Record {
     let plays = little::u32_or_zero(head, 32) as usize;
     record_in(
         head,
-        riff::bytes_from(cue, 0, 4 + 24 * cues),
-        riff::bytes_from(plst, 0, 4 + 12 * plays),
+        little::bytes_from(cue, BytePlace(0), BytePlace(4 + 24 * cues)),
+        little::bytes_from(plst, BytePlace(0), BytePlace(4 + 12 * plays)),
     )
 }
 
@@ -110,7 +111,11 @@ fn reads_back(file: &[u8], made: Record, sound: &[u8]) -> bool {
 // What was written to a lent buffer, and whether it reads back.
 fn written_lines(size: usize, out: &[u8], made: Record, sound: &[u8]) {
     lent::written_lines(size, out);
-    let back = reads_back(riff::bytes_from(out, 0, size), made, sound);
+    let back = reads_back(
+        little::bytes_from(out, BytePlace(0), BytePlace(size)),
+        made,
+        sound,
+    );
     show::either(back, b"reads back", b"differs");
 }
 
@@ -138,9 +143,9 @@ pub fn entry(table: &[u8]) -> usize {
     let at = label(table, 36);
     write_in(
         table,
-        riff::bytes_from(table, at, cue),
-        riff::bytes_from(table, at + cue, plst),
-        riff::bytes_from(table, at + cue + plst, sound),
+        little::bytes_from(table, BytePlace(at), BytePlace(cue)),
+        little::bytes_from(table, BytePlace(at + cue), BytePlace(plst)),
+        little::bytes_from(table, BytePlace(at + cue + plst), BytePlace(sound)),
     );
     at + cue + plst + sound
 }

@@ -2,6 +2,7 @@
 //
 // FILE may have 262,144 bytes at most; a longer one is `refused 1`. It is held on the stack.
 use files::Input;
+use units::BytePlace;
 use wave::Verdict;
 
 // The verdict on a file.
@@ -25,5 +26,5 @@ fn main() {
     if files::too_long(n) {
         return;
     }
-    check(riff::bytes_from(&buffer, 0, n));
+    check(little::bytes_from(&buffer, BytePlace(0), BytePlace(n)));
 }

@@ -5,6 +5,7 @@
 // IN may have 262,144 bytes at most; a longer one is `refused 1`. No such file lacks room. All is held on the
 // stack, 3.4 MB.
 use files::Input;
+use units::BytePlace;
 use wave::Decoded;
 use wave::Format;
 use wave::Frames;
@@ -51,7 +52,7 @@ fn keep(frames: Frames, file: &[u8]) {
 fn write(made: Record, sound: &[u8]) {
     let mut out = files::new_room();
     match wave::write(made, sound, &mut out) {
-        Written::Bytes(size) => keep(made.frames, riff::bytes_from(&out, 0, size.0)),
+        Written::Bytes(size) => keep(made.frames, little::bytes_from(&out, BytePlace(0), size)),
         Written::Refused(refusal) => listing::refused(refusal),
     }
 }
@@ -63,7 +64,10 @@ fn write_sound(made: Record, sound: &[i16; 524288]) {
     let format = made.format;
     let frames = made.frames;
     let n = files::samples_in(frames, format.channels);
-    write(made, riff::bytes_from(&raw, 0, 2 * n));
+    write(
+        made,
+        little::bytes_from(&raw, BytePlace(0), BytePlace(2 * n)),
+    );
 }
 
 // Decodes a file.
@@ -88,5 +92,5 @@ fn main() {
     if files::too_long(n) {
         return;
     }
-    decode(riff::bytes_from(&buffer, 0, n));
+    decode(little::bytes_from(&buffer, BytePlace(0), BytePlace(n)));
 }

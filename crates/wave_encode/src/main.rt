@@ -7,6 +7,7 @@
 // stack, 3.4 MB.
 use files::Input;
 use files::Said;
+use units::BytePlace;
 use wave::Coded;
 use wave::Decoded;
 use wave::Encoded;
@@ -41,7 +42,11 @@ fn keep(frames: Frames, told: Coded, file: &[u8]) {
 fn write(made: Record, told: Coded, blocks: &[u8]) {
     let mut out = files::new_room();
     match wave::write(made, blocks, &mut out) {
-        Written::Bytes(size) => keep(made.frames, told, riff::bytes_from(&out, 0, size.0)),
+        Written::Bytes(size) => keep(
+            made.frames,
+            told,
+            little::bytes_from(&out, BytePlace(0), size),
+        ),
         Written::Refused(refusal) => listing::refused(refusal),
     }
 }
@@ -53,7 +58,7 @@ fn encode(format: Format, frames: Frames, sound: &[i16], align: u16) {
         Encoded::Blocks(told) => write(
             wave::record_of(format.channels, format.rate, align, frames),
             told,
-            riff::bytes_from(&out, 0, told.bytes.0),
+            little::bytes_from(&out, BytePlace(0), told.bytes),
         ),
         Encoded::Refused(refusal) => listing::refused(refusal),
     }
@@ -94,7 +99,10 @@ fn start(align: u16) {
     if files::too_long(n) {
         return;
     }
-    copy(riff::bytes_from(&buffer, 0, n), align);
+    copy(
+        little::bytes_from(&buffer, BytePlace(0), BytePlace(n)),
+        align,
+    );
 }
 
 fn main() {

@@ -8,6 +8,7 @@ use native.Mathlib.Omega.{arith}
 use lib.Dec.{leb}
 use lib.ListN.{length}
 use borrow.Author.Tests.{leb-false}
+use Rattle.units.specs.Refusals.{fileLimit}
 use Rattle.units.specs.declared.BytePlace.{BytePlace}
 use Rattle.units.specs.declared.Refusal.the-variants.{FormatOrDataMissing}
 use Rattle.units.specs.declared.Verdict.{Verdict}
@@ -43,7 +44,7 @@ fact-place : (b : Bool) (bytes : List ℕ) → cond b bytes (cond b [] zeros) �
 fact-place true bytes = refl
 fact-place false bytes = refl
 
-module _ (m : Record) (w : List ℕ) (h : RecordFits m) (k : FaultSaid m (sizeOf w)) (l : length (fileOf m w) ≤ 1073741824) where
+module _ (m : Record) (w : List ℕ) (h : RecordFits m) (k : FaultSaid m (sizeOf w)) (l : length (fileOf m w) ≤ fileLimit) where
   abbrev s : List ℕ
   s = fileOf m w
 

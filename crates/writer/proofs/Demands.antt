@@ -12,7 +12,7 @@ use Rattle.units.specs.declared.Refusal.{Refusal}
 use Rattle.units.specs.declared.Refusal.the-variants.{LengthOutOfRange, FormatWrong, FactWrong, OutputTooSmall}
 use Rattle.units.specs.declared.Verdict.{Verdict}
 use Rattle.units.specs.declared.Verdict.the-variants.{Accepted, Refused}
-use Rattle.units.specs.Refusals.{verdictNumber, demand}
+use Rattle.units.specs.Refusals.{fileLimit, verdictNumber, demand}
 use Rattle.units.proofs.Laws.{demand-row}
 use Rattle.riff.specs.declared.Walked.{Walked}
 use Rattle.riff.proofs.Walking.{whole-limit, too-long}
@@ -74,12 +74,12 @@ back m w room n h e =
     }
 
 -- ---- what is read is written again
-pub accepted : (m : Record) (w : List ℕ) (room : ℕ) → Writable m (sizeOf w) → length (fileOf m w) ≤ 1073741824 → length (fileOf m w) ≤ room
+pub accepted : (m : Record) (w : List ℕ) (room : ℕ) → Writable m (sizeOf w) → length (fileOf m w) ≤ fileLimit → length (fileOf m w) ≤ room
     → writing m w room ≡ Bytes (sizeOf (fileOf m w))
 unfolding writing settled beforeRoom
 accepted m w room k l r =
     let a = record-taken k in
-    let b = le-leb (length (fileOf m w)) 1073741824 l in
+    let b = le-leb (length (fileOf m w)) fileLimit l in
     let c = le-leb (length (fileOf m w)) room r in
     simp (a, b, c)
 
@@ -114,10 +114,10 @@ same : (q r : Refusal) → _≡_ {A = Verdict} (Refused q) (Refused r) → q ≡
 same q r e = cc
 
 -- within the limit, a refusal for something other than room is the rules'
-ruled : (m : Record) (w : List ℕ) (room : ℕ) (r : Refusal) → length (fileOf m w) ≤ 1073741824 → (r ≡ OutputTooSmall → ⊥)
+ruled : (m : Record) (w : List ℕ) (room : ℕ) (r : Refusal) → length (fileOf m w) ≤ fileLimit → (r ≡ OutputTooSmall → ⊥)
     → settled m w room ≡ Refused r → recordVerdict m (sizeOf w) ≡ Refused r
 unfolding settled beforeRoom
-ruled m w room r l n = by (recordVerdict m (sizeOf w)) (leb (length (fileOf m w)) 1073741824) (leb (length (fileOf m w)) room) (le-leb (length (fileOf m w)) 1073741824 l)
+ruled m w room r l n = by (recordVerdict m (sizeOf w)) (leb (length (fileOf m w)) fileLimit) (leb (length (fileOf m w)) room) (le-leb (length (fileOf m w)) fileLimit l)
   where
     by : (v : Verdict) (a b : Bool) → a ≡ true
         → andThen (andThen v (demand a LengthOutOfRange Accepted)) (demand b OutputTooSmall Accepted) ≡ Refused r → v ≡ Refused r
@@ -126,7 +126,7 @@ ruled m w room r l n = by (recordVerdict m (sizeOf w)) (leb (length (fileOf m w)
     by Accepted true false t e = absurd (n (sym (same OutputTooSmall r e)))
     by Accepted false b t e = let z : _≡_ {A = ℕ} 0 1 = cc in absurd (omega arith)
 
-reading-long : (s : List ℕ) → 1073741824 < length s → reading s .verdict ≡ Refused LengthOutOfRange
+reading-long : (s : List ℕ) → fileLimit < length s → reading s .verdict ≡ Refused LengthOutOfRange
 unfolding reading contentOf
 reading-long s h = ap (λ (x : Walked). readingOf (contentIn s x) .verdict) (too-long s h)
 
@@ -136,17 +136,17 @@ taken-verdict (Refused q) m w = refl
 
 pub same-number : SameNumber
 unfolding SameNumber reading
-same-number m w room r h k e = by (leb (length (fileOf m w)) 1073741824) refl
+same-number m w room r h k e = by (leb (length (fileOf m w)) fileLimit) refl
   where
-    by : (b : Bool) → leb (length (fileOf m w)) 1073741824 ≡ b → reading (fileOf m w) .verdict ≡ Refused r
+    by : (b : Bool) → leb (length (fileOf m w)) fileLimit ≡ b → reading (fileOf m w) .verdict ≡ Refused r
     by true t =
-        let l = leb-true (length (fileOf m w)) 1073741824 t in
+        let l = leb-true (length (fileOf m w)) fileLimit t in
         let v = ruled m w room r l (k .room) (refused-says m w room r e) in
         let c : FaultSaid m (sizeOf w) =
         record { format = λ x. k .format (same r FormatWrong (sym v ∙ x)); frames = λ x. k .frames (same r FactWrong (sym v ∙ x)) } in
         ap (λ (x : Content). readingOf x .verdict) (content-back m w h c l) ∙ taken-verdict (recordVerdict m (sizeOf w)) (recordKept m) w ∙ v
     by false t =
-        let l = leb-false (length (fileOf m w)) 1073741824 t in
+        let l = leb-false (length (fileOf m w)) fileLimit t in
         reading-long (fileOf m w) l ∙ ap Refused (sym (k .limit l))
 
 -- ---- each demand is a row of the table

@@ -5,6 +5,7 @@ use mathlib.Core.List.{List, [], _∷_, _++_, append-assoc, append-nil}
 use Prim.Native.Nat.{ℕ, _+_, _-_, _≤_, _<_}
 use native.Mathlib.Omega.{arith}
 use lib.ListN.{length, length-append}
+use Rattle.units.specs.Refusals.{fileLimit}
 use Rattle.little.specs.Writing.{Put, front}
 use Rattle.little.proofs.Filling.{put-front, next-room, both-put, first-room}
 use Rattle.units.specs.declared.BytePlace.{BytePlace}
@@ -104,7 +105,7 @@ module _ (m : Record) (w : List ℕ) where
               put-front (rw (file-runs) v)
 
 module _ (m : Record) (w : List ℕ) (room : ℕ) (s : settled m w room ≡ Accepted) where
-  pub sound-limit : length w ≤ 1073741824
+  pub sound-limit : length w ≤ fileLimit
   sound-limit = omega (arith, longer m w room, settled-says m w room s .limit)
 
   pub format-kept : formatRule (m .format) ≡ true

@@ -11,7 +11,7 @@ use Rattle.units.specs.declared.Refusal.{Refusal}
 use Rattle.units.specs.declared.Refusal.the-variants.{LengthOutOfRange, OutputTooSmall}
 use Rattle.units.specs.declared.Verdict.{Verdict}
 use Rattle.units.specs.declared.Verdict.the-variants.{Accepted, Refused}
-use Rattle.units.specs.Refusals.{demand}
+use Rattle.units.specs.Refusals.{fileLimit, demand}
 use Rattle.units.proofs.Laws.{demand-met}
 use Rattle.riff.proofs.Laying.{length-laid}
 use Rattle.rules.specs.declared.Record.{Record}
@@ -28,7 +28,7 @@ module _ (m : Record) (w : List ℕ) (room : ℕ) where
   file = length (fileOf m w)
 
   abbrev limited : Verdict
-  limited = demand (leb file 1073741824) LengthOutOfRange Accepted
+  limited = demand (leb file fileLimit) LengthOutOfRange Accepted
 
   abbrev roomed : Verdict
   roomed = demand (leb file room) OutputTooSmall Accepted
@@ -49,16 +49,16 @@ module _ (m : Record) (w : List ℕ) (room : ℕ) where
     settle-ruled f = f ∙ sym (settled-by a e f)
 
     module _ (f : v ≡ Accepted) where
-      pub settle-long : 1073741824 < k → Refused LengthOutOfRange ≡ settled m w room
-      settle-long h = let l : leb file 1073741824 ≡ false = lt-leb file 1073741824 (omega (arith, longer)) in sym (settled-by a e f ∙ simp l)
+      pub settle-long : fileLimit < k → Refused LengthOutOfRange ≡ settled m w room
+      settle-long h = let l : leb file fileLimit ≡ false = lt-leb file fileLimit (omega (arith, longer)) in sym (settled-by a e f ∙ simp l)
 
       module _ {size : ℕ} (g : size ≡ file) where
-        pub settle-limit : (most : ℕ) → most < size → 1073741824 ≤ most → Refused LengthOutOfRange ≡ settled m w room
-        settle-limit most h i = let l : leb file 1073741824 ≡ false = lt-leb file 1073741824 (omega arith) in sym (settled-by a e f ∙ simp l)
+        pub settle-limit : (most : ℕ) → most < size → fileLimit ≤ most → Refused LengthOutOfRange ≡ settled m w room
+        settle-limit most h i = let l : leb file fileLimit ≡ false = lt-leb file fileLimit (omega arith) in sym (settled-by a e f ∙ simp l)
 
-        module _ (h : size ≤ 1073741824) where
-          l : leb file 1073741824 ≡ true
-          l = le-leb file 1073741824 (omega arith)
+        module _ (h : size ≤ fileLimit) where
+          l : leb file fileLimit ≡ true
+          l = le-leb file fileLimit (omega arith)
 
           pub settle-room : room < size → Refused OutputTooSmall ≡ settled m w room
           settle-room i = let j : leb file room ≡ false = lt-leb file room (omega arith) in sym (settled-by a e f ∙ simp (l, j))
@@ -71,7 +71,7 @@ pub ruleset settling = (settle-ruled, settle-long, settle-limit, settle-room, se
 -- ---- what it says where the file is written
 pub record Settled (m : Record) (w : List ℕ) (room : ℕ) : Type 0 where
   pub rules : Writable m (sizeOf w)
-  pub limit : length (fileOf m w) ≤ 1073741824
+  pub limit : length (fileOf m w) ≤ fileLimit
   pub fits : length (fileOf m w) ≤ room
 
 pub settled-says : (m : Record) (w : List ℕ) (room : ℕ) → settled m w room ≡ Accepted → Settled m w room
@@ -79,10 +79,10 @@ unfolding settled beforeRoom
 settled-says m w room e =
     let p = and-met (beforeRoom m w) (roomed m w room) e in
     let q = and-met (recordVerdict m (sizeOf w)) (limited m w room) (p .0) in
-    let r = demand-met (leb (length (fileOf m w)) 1073741824) LengthOutOfRange Accepted (q .1) in
+    let r = demand-met (leb (length (fileOf m w)) fileLimit) LengthOutOfRange Accepted (q .1) in
     let s = demand-met (leb (length (fileOf m w)) room) OutputTooSmall Accepted (p .1) in
     record {
       rules = record-keeps m (sizeOf w) (q .0);
-      limit = leb→le (length (fileOf m w)) 1073741824 (subst T (sym (r .0)) tt);
+      limit = leb→le (length (fileOf m w)) fileLimit (subst T (sym (r .0)) tt);
       fits = leb→le (length (fileOf m w)) room (subst T (sym (s .0)) tt);
     }

@@ -6,6 +6,7 @@ use mathlib.Core.List.{List}
 use lib.Dec.{T, leb}
 use lib.ListN.{length}
 use lib.Pow.{areBytes}
+use Rattle.units.specs.Refusals.{fileLimit}
 use Rattle.units.specs.declared.BytePlace.{BytePlace}
 use Rattle.units.specs.declared.Refusal.{Refusal}
 use Rattle.units.specs.declared.Refusal.the-variants.{LengthOutOfRange, FormatWrong, FactWrong, OutputTooSmall}
@@ -62,7 +63,7 @@ pub record Carries (m : Record) (w : List ℕ) (r : Refusal) : Type 0 where
   pub format : r ≡ FormatWrong → formatRule (saidFormat (m .format)) ≡ false
   pub frames : r ≡ FactWrong → needsFact (m .format) ≡ true
   pub room : r ≡ OutputTooSmall → ⊥
-  pub limit : 1073741824 < length (fileOf m w) → r ≡ LengthOutOfRange
+  pub limit : fileLimit < length (fileOf m w) → r ≡ LengthOutOfRange
 
 unfoldable pub SameNumber : Type 0
 SameNumber =
@@ -79,6 +80,6 @@ WriteNumbered =
     (cond (not (framesRule (m .format) (sizeOf w) (m .frames))) 11
     (cond (not (cuesRule (m .cues) (m .frames))) 12
     (cond (not (playsRule (m .playlist) (m .cues) (m .frames))) 13
-    (cond (not (leb (length (fileOf m w)) 1073741824)) 1
+    (cond (not (leb (length (fileOf m w)) fileLimit)) 1
     (cond (not (leb (length (fileOf m w)) room)) 14
     0))))))

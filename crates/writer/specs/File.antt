@@ -9,7 +9,7 @@ use Rattle.units.specs.declared.Frames.{Frames}
 use Rattle.units.specs.declared.Refusal.the-variants.{LengthOutOfRange, OutputTooSmall}
 use Rattle.units.specs.declared.Verdict.{Verdict}
 use Rattle.units.specs.declared.Verdict.the-variants as verdict
-use Rattle.units.specs.Refusals.{numberOf, demand}
+use Rattle.units.specs.Refusals.{fileLimit, numberOf, demand}
 use Rattle.codes.specs.declared.Code.the-variants as code
 use Rattle.riff.specs.Laying.{Part, Parts, piece, pieceBytes, partBytes, riffBytes, piecesOf, fileBytes}
 use Rattle.formats.specs.declared.Format.{Format}
@@ -73,7 +73,7 @@ sizeOf s = record { 0 = length s }
 unfoldable pub beforeRoom : Record → List ℕ → Verdict
 beforeRoom m w =
     andThen (recordVerdict m (sizeOf w))
-    (demand (leb (length (fileOf m w)) 1073741824) LengthOutOfRange verdict.Accepted)
+    (demand (leb (length (fileOf m w)) fileLimit) LengthOutOfRange verdict.Accepted)
 
 unfoldable pub settled : Record → List ℕ → ℕ → Verdict
 settled m w room = andThen (beforeRoom m w) (demand (leb (length (fileOf m w)) room) OutputTooSmall verdict.Accepted)

@@ -16,6 +16,7 @@ ghost use mathlib.Core.Bool.{true, cond};
 ghost use mathlib.Core.List.{_++_};
 ghost use Prim.Native.Nat.{_+_, _≤_};
 ghost use lib.ListN.{length};
+ghost use Rattle.units.specs.Refusals.{fileLimit};
 ghost use Rattle.codes.specs.declared.Code.the-variants as code;
 ghost use Rattle.little.specs.Writing.{Put, front};
 ghost use Rattle.units.specs.declared.Verdict.the-variants as verdict;
@@ -75,7 +76,7 @@ fn sound_size(first: &[u8], second: &[u8]) -> usize
 
 // The length of the file.
 fn file_size(made: Record, first: &[u8], second: &[u8]) -> usize
-    requires { ⌜ length (now first ++ now second) ≤ 1073741824 ⌝ }
+    requires { ⌜ length (now first ++ now second) ≤ fileLimit ⌝ }
     ensures answer { λ r. ⌜ r ≡ length (fileOf made (now (first .entry) ++ now (second .entry))) ⌝ }
 {
     let format = made.format;
@@ -99,11 +100,11 @@ fn settle(made: Record, first: &[u8], second: &[u8], room: usize) -> Verdict
         return ruled;
     };
     // So that the sum in `file_size` fits.
-    if riff::LIMIT < sound {
+    if units::LIMIT < sound {
         return Verdict::Refused(Refusal::LengthOutOfRange);
     }
     let size = file_size(made, first, second);
-    if riff::LIMIT < size {
+    if units::LIMIT < size {
         return Verdict::Refused(Refusal::LengthOutOfRange);
     }
     if room < size {
@@ -189,7 +190,7 @@ fn put_joined(out: &mut [u8], at: usize, first: &[u8], second: &[u8])
 }
 
 fn put_sound(out: &mut [u8], at: usize, first: &[u8], second: &[u8])
-    requires { ⌜ length (now first ++ now second) ≤ 1073741824 ⌝ }
+    requires { ⌜ length (now first ++ now second) ≤ fileLimit ⌝ }
     requires { ⌜ at + length (pieceBytes (piece code.Data (now first ++ now second))) ≤ length (now out) ⌝ }
     ensures buffer { λ _. ⌜ Put (now (out .entry)) at (pieceBytes (piece code.Data (now (first .entry) ++ now (second .entry)))) (now (out .exit)) ⌝ }
 {
