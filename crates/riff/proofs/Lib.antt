@@ -7,3 +7,4 @@ pub mod Found
 pub mod Laid
 pub mod Tiling
 pub mod Bytes
+pub mod Numbers

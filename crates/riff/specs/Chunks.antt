@@ -1,17 +1,17 @@
 -- A RIFF file's header, and the chunk at a place. Assumes nothing.
 use Prim.Native.Nat.{ℕ, _+_, _%_}
 use mathlib.Core.Bool.{Bool, true, false, not, cond, _&&_, _||_}
-use mathlib.Core.List.{List}
+use mathlib.Core.List.{List, [], _∷_}
 use lib.Dec.{ltb, leb, eqb}
 use lib.ListN.{length}
-use Rattle.units.specs.Refusals.{fileLimit}
+use Rattle.units.specs.Refusals.{fileLimit, numberOf}
+use Rattle.units.specs.Checks.{Check, check, decided}
 use Rattle.little.specs.Numbers.{numberAt}
 use Rattle.codes.specs.Codes.{isAt}
 use Rattle.codes.specs.declared.Code.the-variants as code
 use Rattle.units.specs.declared.BytePlace.{BytePlace}
 use Rattle.units.specs.declared.Refusal.the-variants.{LengthOutOfRange, NotWave, RiffSizeWrong, ChunkPastTheEnd, SecondOfItsKind, DataBeforeFormat, WaveList}
 use Rattle.units.specs.declared.Verdict.{Verdict}
-use Rattle.units.specs.declared.Verdict.the-variants as verdict
 use Rattle.riff.specs.declared.Kind.{Kind}
 use Rattle.riff.specs.declared.Kind.the-variants.{Format, Sound, Fact, Cues, Plays, Listing, Other}
 use Rattle.riff.specs.declared.Place.{Place}
@@ -35,12 +35,16 @@ noWave s = not (isAt s 0 code.Riff) || not (isAt s 8 code.Wave)
 abbrev pub badSize : List ℕ → Bool
 badSize s = not (eqb (numberAt 4 s 4 % 2) 0) || not (eqb (8 + numberAt 4 s 4) (length s))
 
+-- 1, 2, 3
+abbrev pub headChecks : List ℕ → List Check
+headChecks s =
+    check (not (badLength s)) LengthOutOfRange
+    ∷ check (not (noWave s)) NotWave
+    ∷ check (not (badSize s)) RiffSizeWrong
+    ∷ []
+
 unfoldable pub headVerdict : List ℕ → Verdict
-headVerdict s =
-    cond (badLength s) (verdict.Refused LengthOutOfRange)
-    (cond (noWave s) (verdict.Refused NotWave)
-    (cond (badSize s) (verdict.Refused RiffSizeWrong)
-    verdict.Accepted))
+headVerdict s = decided (headChecks s)
 
 -- ---- a chunk: a four-byte code, a four-byte size and that many bytes, plus one pad byte if the size is odd
 
@@ -137,3 +141,8 @@ checked s d (Chunk p) =
 
 unfoldable pub chunkAt : List ℕ → BytePlace → Directory → Step
 chunkAt s at d = checked s d (placeAt s at)
+
+-- the number of a step: 4, 5, 6 or 7, and 0 where the walk goes on
+abbrev pub stepNumber : Step → ℕ
+stepNumber (Chunk p) = 0
+stepNumber (Refused r) = numberOf r

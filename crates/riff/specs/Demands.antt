@@ -1,18 +1,53 @@
--- What reading a file gives, against the chunks it was laid of; and the bytes that the chunks it is read by take. Assumes nothing.
-use Prim.Native.Nat.{ℕ}
+-- The numbers of the walk; what reading a file gives, against the chunks it was laid of; and the bytes that the chunks it is read by
+-- take. Assumes nothing.
+use Prim.Native.Nat.{ℕ, zero, suc}
 use mathlib.Core.Path.{_≡_}
 use mathlib.Core.Bool.{true, cond}
 use mathlib.Core.List.{List, []}
+use lib.Dec.{ltb}
 use lib.ListN.{length}
+use Rattle.units.specs.declared.BytePlace.{BytePlace}
 use Rattle.riff.specs.declared.Spot.{Spot}
 use Rattle.riff.specs.declared.Spot.the-variants.{At, Missing}
 use Rattle.riff.specs.declared.Directory.{Directory}
 use Rattle.riff.specs.declared.Walked.the-variants.{Whole}
-use Rattle.riff.specs.Chunks.{isThere}
-use Rattle.riff.specs.Walk.{directoryOf, partOf}
+use Rattle.riff.specs.Chunks.{badLength, noWave, badSize, kindAt, nextAt, placed, passes, isThere, spotOf, keep, early, waveList, chunkAt, stepNumber}
+use Rattle.riff.specs.Walk.{nothingYet, walkedNumber, directoryOf, partOf}
 use Rattle.riff.specs.Laying.{extent, Parts}
 
--- s reads as the parts p; of a chunk that is not written, as what is read in its place
+-- ---- the numbers 1 to 7 of document 01, in its order of checks
+
+-- at one chunk 4, 5, 6, 7 in that order; else the number n of what comes after it
+abbrev pub stepElse : List ℕ → ℕ → Directory → ℕ → ℕ
+stepElse s at d n =
+    cond (passes s at) 4
+    (cond (isThere (spotOf d (kindAt s at))) 5
+    (cond (early d (kindAt s at)) 6
+    (cond (waveList s (placed s at) (kindAt s at)) 7
+    n)))
+
+unfoldable pub StepNumbered : Type 0
+StepNumbered = (s : List ℕ) (at : BytePlace) (d : Directory) → stepNumber (chunkAt s at d) ≡ stepElse s (at .0) d 0
+
+-- from a place to the end of the file, n chunks at most: each chunk in its turn, the earliest in the file first
+unfoldable pub numberFrom : ℕ → List ℕ → ℕ → Directory → ℕ
+numberFrom zero s at d = 0
+numberFrom (suc n) s at d =
+    cond (ltb at (length s))
+    (stepElse s at d (numberFrom n s (nextAt s at) (keep d (placed s at) (kindAt s at))))
+    0
+
+unfoldable pub walkNumber : List ℕ → ℕ
+walkNumber s = numberFrom (length s) s 12 nothingYet
+
+-- 1, 2, 3; then the walk
+unfoldable pub WalkNumbered : Type 0
+WalkNumbered =
+    (s : List ℕ)
+    → walkedNumber (directoryOf s)
+    ≡ cond (badLength s) 1 (cond (noWave s) 2 (cond (badSize s) 3 (walkNumber s)))
+
+-- ---- s reads as the parts p; of a chunk that is not written, as what is read in its place
 pub record Reads (s : List ℕ) (p : Parts) : Type 0 where
   pub places : Directory
   pub walked : directoryOf s ≡ Whole places

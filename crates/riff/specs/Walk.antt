@@ -9,6 +9,7 @@ use Rattle.units.specs.declared.Refusal.{Refusal}
 use Rattle.units.specs.declared.Refusal.the-variants.{ChunkPastTheEnd}
 use Rattle.units.specs.declared.Verdict.{Verdict}
 use Rattle.units.specs.declared.Verdict.the-variants as verdict
+use Rattle.units.specs.Refusals.{numberOf}
 use Rattle.riff.specs.declared.Step.{Step}
 use Rattle.riff.specs.declared.Step.the-variants.{Chunk, Refused}
 use Rattle.riff.specs.declared.Spot.{Spot}
@@ -48,6 +49,11 @@ walkOf s = gather nothingYet (stepsOf s)
 abbrev pub afterHead : Verdict → Walked → Walked
 afterHead verdict.Accepted w = w
 afterHead (verdict.Refused r) w = Stopped r
+
+-- the number of a walk: that of its last step, and 0 where it is whole
+abbrev pub walkedNumber : Walked → ℕ
+walkedNumber (Whole d) = 0
+walkedNumber (Stopped r) = numberOf r
 
 unfoldable pub directoryOf : List ℕ → Walked
 directoryOf s = afterHead (headVerdict s) (walkOf s)
