@@ -63,6 +63,16 @@ abbrev pub partOf : List ℕ → Spot → List ℕ → List ℕ
 partOf s (At p) absent = take (p .size .0) (drop (p .start .0) s)
 partOf s Missing absent = absent
 
+-- one of two values: of a chunk that is there, or of what is read in its place
+unfoldable pub bySpot : {A : Type 0} → Spot → A → A → A
+bySpot (At p) there absent = there
+bySpot Missing there absent = absent
+
+-- where a chunk's data start
+abbrev pub startOf : Spot → ℕ
+startOf (At p) = p .start .0
+startOf Missing = 0
+
 -- the refusal that a step is; a chunk is none, and any would do
 abbrev pub refusalOf : Step → Refusal
 refusalOf (Chunk p) = ChunkPastTheEnd

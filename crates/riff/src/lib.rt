@@ -7,11 +7,11 @@ use units::BytePlace;
 use units::Refusal;
 use units::Verdict;
 ghost use mathlib.Core.Path.{_≡_};
-ghost use Prim.Native.Nat.{_+_, _≤_};
+ghost use Prim.Native.Nat.{_+_, _≤_, min};
 ghost use lib.ListN.{length, take, drop};
 ghost use Rattle.little.specs.Writing.{Put};
 ghost use Rattle.riff.specs.Chunks.{headVerdict, kindAt, placeAt, spotOf, isThere, early, startsAsWaves, waveList, chunkAt, directory, keep};
-ghost use Rattle.riff.specs.Walk.{refusalOf, walkOf, directoryOf, partOf};
+ghost use Rattle.riff.specs.Walk.{refusalOf, walkOf, directoryOf, partOf, bySpot, startOf};
 ghost use Rattle.riff.specs.Laying.{headBytes, riffBytes};
 
 // What a chunk is to the walk.
@@ -304,6 +304,8 @@ pub fn chunks(file: &[u8]) -> Walked
 // A chunk's data, that very part of the file; of a chunk that is missing, what is lent in its place.
 pub fn part<'a>(file: &'a [u8], spot: Spot, absent: &'a [u8]) -> &'a [u8]
     ensures part { λ r. ⌜ now r ≡ partOf (now (file .entry)) spot (now (absent .entry)) ⌝ }
+    ensures lent { λ r. ⌜ r .ptr .0 ≡ bySpot spot (file .entry .ptr .0) (absent .entry .ptr .0) ⌝ }
+    ensures place { λ r. ⌜ r .ptr .1 ≡ bySpot spot (file .entry .ptr .1 + min (startOf spot) (length (now (file .entry)))) (absent .entry .ptr .1) ⌝ }
 {
     match spot {
         Spot::At(place) => little::bytes_from(file, place.start, place.size),
