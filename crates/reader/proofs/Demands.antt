@@ -5,35 +5,38 @@ use mathlib.Core.List.{List, []}
 use Prim.Native.Nat.{ℕ}
 use native.Mathlib.Omega.{arith}
 use Rattle.units.specs.declared.Refusal.{Refusal}
-use Rattle.units.specs.declared.Refusal.the-variants.{LengthOutOfRange, NotWave, RiffSizeWrong, FormatOrDataMissing}
+use Rattle.units.specs.declared.Refusal.the-variants.{FormatOrDataMissing}
 use Rattle.units.specs.declared.Verdict.{Verdict}
 use Rattle.units.specs.declared.Verdict.the-variants.{Accepted, Refused}
 use Rattle.riff.specs.declared.Directory.{Directory}
 use Rattle.riff.specs.declared.Spot.{Spot}
 use Rattle.riff.specs.declared.Walked.{Walked}
 use Rattle.riff.specs.declared.Walked.the-variants.{Whole, Stopped}
-use Rattle.units.specs.Refusals.{numberOf, verdictNumber}
+use Rattle.units.specs.Refusals.{verdictNumber}
+use Rattle.units.specs.Checks.{numberOr}
 use Rattle.units.proofs.Laws.{demand-row}
-use Rattle.riff.specs.Chunks.{badLength, noWave, badSize, headVerdict, isThere}
-use Rattle.riff.specs.Walk.{partOf, walkOf, afterHead, directoryOf}
+use Rattle.riff.specs.Chunks.{headVerdict, isThere}
+use Rattle.riff.specs.Walk.{partOf, walkOf, afterHead, walkedNumber, directoryOf}
+use Rattle.riff.specs.Demands.{walkNumber}
+use Rattle.riff.proofs.Numbers.{walk-row, head-row}
 use Rattle.tables.specs.Cues.{noCue}
 use Rattle.tables.specs.Plays.{noPlay}
 use Rattle.tables.proofs.Entries.{all-zero, cues-zero, plays-zero}
 use Rattle.rules.specs.declared.Record.{Record}
 use Rattle.rules.specs.Rules.{recordOf, inOrder, verdictOf, blank}
 use Rattle.reader.specs.Content.{Content, refused, holds, contentBy, soundPart, cuePart, playlistPart, recordAt, verdictAt, contentAt, contentIn, contentOf, readingOf, soundOf, reading, soundIn, spotBy, soundSpot}
-use Rattle.reader.specs.Demands.{chunkNumber, ReadNumbered, Tied, Placed, Refusing, ZeroPast}
+use Rattle.reader.specs.Demands.{chunkNumber, ReadNumbered, Tied, Placed, Refusing, ZeroAfter, ZeroPast}
 
-pub tied : (s : List ℕ) → Tied s
-unfolding reading soundIn
+pub tied : Tied
+unfolding Tied reading soundIn
 tied s = by (contentOf s)
   where
     by : (c : Content) → contentBy (readingOf c .verdict) (readingOf c .made) (soundOf c) ≡ c
     by (refused r) = refl
     by (holds m w) = refl
 
-pub placed : (s : List ℕ) → Placed s
-unfolding reading soundIn contentOf contentAt soundSpot
+pub placed : Placed
+unfolding Placed reading soundIn contentOf contentAt soundSpot
 placed s = by (directoryOf s)
   where
     at : (d : Directory) (b : Bool) (v : Verdict) (m : Record)
@@ -49,10 +52,11 @@ placed s = by (directoryOf s)
 
 -- in the words of the code
 pub sound-placed : (s : List ℕ) {spot : Spot} {w : List ℕ} → spot ≡ soundSpot s → w ≡ partOf s spot [] → w ≡ soundIn s
+unfolding Placed
 sound-placed s f g = g ∙ ap (λ (x : Spot). partOf s x []) f ∙ placed s
 
-pub refusing : (s : List ℕ) → Refusing s
-unfolding reading soundIn
+pub refusing : Refusing
+unfolding Refusing reading soundIn
 refusing s r e = let b = by (contentOf s) e in record { made = b .0; sound = b .1 }
   where
     by : (c : Content) → readingOf c .verdict ≡ Refused r → (readingOf c .made ≡ blank) × (soundOf c ≡ [])
@@ -79,10 +83,10 @@ module _ (P : Content → Type 0) (none : (r : Refusal) → P (refused r)) where
           (either (verdictAt s d) (recordAt s d) (soundPart s d) (some d))
       by (Stopped r) = none r
 
-pub zero-past : (s : List ℕ) → ZeroPast (reading s .made)
-unfolding reading recordOf
+pub zero-past : ZeroPast
+unfolding ZeroPast reading recordOf
 zero-past s =
-    in-content (λ c. ZeroPast (readingOf c .made))
+    in-content (λ c. ZeroAfter (readingOf c .made))
     (λ r. record { cues = λ i h. all-zero noCue 64 i; plays = λ i h. all-zero noPlay 64 i })
     s
     (λ d. record { cues = λ i h. cues-zero (cuePart s d) i h; plays = λ i h. plays-zero (playlistPart s d) i h })
@@ -95,22 +99,20 @@ taken-row true true (Refused r) m w = refl
 taken-row true false v m w = refl
 taken-row false b v m w = refl
 
-chunk-rows : (s : List ℕ) (w : Walked) → verdictNumber (readingOf (contentIn s w) .verdict) ≡ chunkNumber s w
+chunk-rows : (s : List ℕ) (w : Walked) → walkedNumber w ≡ walkNumber s → verdictNumber (readingOf (contentIn s w) .verdict) ≡ chunkNumber s w
 unfolding contentAt verdictOf inOrder
-chunk-rows s (Stopped r) = refl
-chunk-rows s (Whole d) =
+chunk-rows s (Stopped r) e = e
+chunk-rows s (Whole d) e =
     taken-row (isThere (d .format)) (isThere (d .sound)) (verdictAt s d) (recordAt s d) (soundPart s d) ∙ simp demand-row
 
-head-row : (s : List ℕ) (b : Bool) (r : Refusal) (v : Verdict) (w : Walked)
-    → verdictNumber (readingOf (contentIn s (afterHead (cond b (Refused r) v) w)) .verdict)
-    ≡ cond b (numberOf r) (verdictNumber (readingOf (contentIn s (afterHead v w)) .verdict))
-head-row s true r v w = refl
-head-row s false r v w = refl
-
-pub numbered : (s : List ℕ) → ReadNumbered s
-unfolding reading contentOf directoryOf headVerdict
+pub numbered : ReadNumbered
+unfolding ReadNumbered reading contentOf directoryOf
 numbered s =
-    head-row s (badLength s) LengthOutOfRange _ (walkOf s)
-    ∙ ap (cond (badLength s) 1) (head-row s (noWave s) NotWave _ (walkOf s)
-    ∙ ap (cond (noWave s) 2) (head-row s (badSize s) RiffSizeWrong Accepted (walkOf s)
-    ∙ ap (cond (badSize s) 3) (chunk-rows s (walkOf s))))
+    by (headVerdict s) (walkOf s)
+    ∙ ap (numberOr (headVerdict s)) (chunk-rows s (walkOf s) (walk-row s))
+    ∙ head-row s (chunkNumber s (walkOf s))
+  where
+    by : (v : Verdict) (w : Walked)
+        → verdictNumber (readingOf (contentIn s (afterHead v w)) .verdict) ≡ numberOr v (verdictNumber (readingOf (contentIn s w) .verdict))
+    by Accepted w = refl
+    by (Refused r) w = refl

@@ -23,6 +23,7 @@ use Rattle.rules.specs.declared.Reading.{Reading}
 use Rattle.rules.specs.Rules.{valid, formatValid, factValid, cuesValid, playsValid, verdictOf, Writable}
 use Rattle.rules.proofs.Taken.{in-order}
 use Rattle.reader.specs.Content.{Content, refused, holds, contentBy, formatPart, soundPart, soundSize, factPart, cuePart, playlistPart, recordAt, verdictAt, contentAt, contentIn, contentOf, reading, soundIn}
+use Rattle.reader.specs.Demands.{Tied}
 use Rattle.reader.proofs.Demands.{tied}
 
 both : (a b : Bool) → valid a b ≡ true → (a ≡ true) × (b ≡ true)
@@ -92,6 +93,7 @@ formed s d e =
 -- ---- in the words of callers
 module _ (s : List ℕ) {x : Reading} (e : x ≡ reading s) where
   told : {v : Verdict} → x .verdict ≡ v → contentBy v (x .made) (soundIn s) ≡ contentOf s
+  unfolding Tied
   told {v} h =
       ap (λ (u : Verdict). contentBy u (x .made) (soundIn s)) (sym h)
       ∙ ap (λ (y : Reading). contentBy (y .verdict) (y .made) (soundIn s)) e

@@ -14,7 +14,7 @@ use Rattle.riff.specs.declared.Spot.the-variants.{Missing}
 use Rattle.riff.specs.declared.Walked.{Walked}
 use Rattle.riff.specs.declared.Walked.the-variants.{Whole, Stopped}
 use Rattle.riff.specs.Chunks.{isThere}
-use Rattle.riff.specs.Walk.{partOf, directoryOf}
+use Rattle.riff.specs.Walk.{partOf, startOf, directoryOf}
 use Rattle.formats.specs.declared.Format.{Format}
 use Rattle.formats.specs.Format.{formatOf}
 use Rattle.formats.specs.Frames.{needsFact}
@@ -109,3 +109,7 @@ spotBy (Refused r) w = Missing
 
 unfoldable pub soundSpot : List ℕ → Spot
 soundSpot s = spotBy (reading s .verdict) (directoryOf s)
+
+-- where in the file it starts; the empty sound of a refused file stands at the file's start
+unfoldable pub soundStart : List ℕ → ℕ
+soundStart s = startOf (soundSpot s)

@@ -6,11 +6,12 @@ use mathlib.Core.List.{List, []}
 use lib.ListN.{getD}
 use Rattle.units.specs.declared.Refusal.{Refusal}
 use Rattle.units.specs.declared.Verdict.the-variants.{Refused}
-use Rattle.units.specs.Refusals.{numberOf, verdictNumber}
+use Rattle.units.specs.Refusals.{verdictNumber}
 use Rattle.riff.specs.declared.Walked.{Walked}
 use Rattle.riff.specs.declared.Walked.the-variants.{Whole, Stopped}
 use Rattle.riff.specs.Chunks.{badLength, noWave, badSize, isThere}
 use Rattle.riff.specs.Walk.{walkOf, partOf}
+use Rattle.riff.specs.Demands.{walkNumber}
 use Rattle.formats.specs.Frames.{wholeBlocks}
 use Rattle.tables.specs.Cues.{noCue}
 use Rattle.tables.specs.Plays.{noPlay}
@@ -20,9 +21,9 @@ use Rattle.reader.specs.Content.{formatPart, soundSize, factPart, cuePar
 
 -- ---- the number that a file gets, in the order of checks and the numbers of document 01; 0 is taken
 
--- 4 to 7 as the walk says; then 8 to 13 by number
+-- 4 to 7 in the walk, chunk by chunk; then 8 to 13 by number
 abbrev pub chunkNumber : List ℕ → Walked → ℕ
-chunkNumber s (Stopped r) = numberOf r
+chunkNumber s (Stopped r) = walkNumber s
 chunkNumber s (Whole d) =
     cond (not (isThere (d .format)) || not (isThere (d .sound))) 8
     (cond (not (formatValid (formatPart s d) (recordAt s d .format))) 9
@@ -36,28 +37,31 @@ chunkNumber s (Whole d) =
 abbrev pub numberGiven : List ℕ → ℕ
 numberGiven s = cond (badLength s) 1 (cond (noWave s) 2 (cond (badSize s) 3 (chunkNumber s (walkOf s))))
 
-abbrev pub ReadNumbered : List ℕ → Type 0
-ReadNumbered s = verdictNumber (reading s .verdict) ≡ numberGiven s
+unfoldable pub ReadNumbered : Type 0
+ReadNumbered = (s : List ℕ) → verdictNumber (reading s .verdict) ≡ numberGiven s
 
 -- ---- what it answers
 
 -- the answers together are what the file holds
-abbrev pub Tied : List ℕ → Type 0
-Tied s = contentBy (reading s .verdict) (reading s .made) (soundIn s) ≡ contentOf s
+unfoldable pub Tied : Type 0
+Tied = (s : List ℕ) → contentBy (reading s .verdict) (reading s .made) (soundIn s) ≡ contentOf s
 
 -- the sound is the part of the file that stands where it is said to
-abbrev pub Placed : List ℕ → Type 0
-Placed s = partOf s (soundSpot s) [] ≡ soundIn s
+unfoldable pub Placed : Type 0
+Placed = (s : List ℕ) → partOf s (soundSpot s) [] ≡ soundIn s
 
 -- a refused file has no record and no sound
 pub record ReadsNothing (s : List ℕ) : Type 0 where
   pub made : reading s .made ≡ blank
   pub sound : soundIn s ≡ []
 
-abbrev pub Refusing : List ℕ → Type 0
-Refusing s = (r : Refusal) → reading s .verdict ≡ Refused r → ReadsNothing s
+unfoldable pub Refusing : Type 0
+Refusing = (s : List ℕ) (r : Refusal) → reading s .verdict ≡ Refused r → ReadsNothing s
 
 -- past its counts a record reads as zero
-pub record ZeroPast (m : Record) : Type 0 where
+pub record ZeroAfter (m : Record) : Type 0 where
   pub cues : (i : ℕ) → m .cues .count ≤ i → getD (m .cues .list) i noCue ≡ noCue
   pub plays : (i : ℕ) → m .playlist .count ≤ i → getD (m .playlist .list) i noPlay ≡ noPlay
+
+unfoldable pub ZeroPast : Type 0
+ZeroPast = (s : List ℕ) → ZeroAfter (reading s .made)

@@ -10,7 +10,7 @@ use units::BytePlace;
 use units::Refusal;
 use units::Verdict;
 ghost use mathlib.Core.Path.{_≡_};
-ghost use Prim.Native.Nat.{_≤_};
+ghost use Prim.Native.Nat.{_+_, _≤_};
 ghost use mathlib.Core.Bool.{cond};
 ghost use lib.ListN.{length};
 ghost use Rattle.units.specs.Refusals.{fileLimit};
@@ -18,12 +18,19 @@ ghost use Rattle.formats.specs.Frames.{needsFact};
 ghost use Rattle.riff.specs.Walk.{partOf};
 ghost use Rattle.rules.specs.Rules.{readingBy};
 ghost use Rattle.riff.specs.declared.Walked.the-variants.{Whole};
-ghost use Rattle.reader.specs.Content.{verdictAt, recordAt, contentAt, readingOf, reading, spotBy, soundSpot, soundIn};
+ghost use Rattle.reader.specs.Content.{verdictAt, recordAt, contentAt, readingOf, reading, spotBy, soundSpot, soundIn, soundStart};
 
 // What a file says, and where its sound data stand.
 pub struct Opened {
     pub answer: Reading,
     pub sound: Spot,
+}
+
+// The data of a chunk, or what is lent in its place: what it holds, and not where it stands, is asked.
+fn chunk_data<'a>(file: &'a [u8], spot: Spot, absent: &'a [u8]) -> &'a [u8]
+    ensures part { λ r. ⌜ now r ≡ partOf (now (file .entry)) spot (now (absent .entry)) ⌝ }
+{
+    riff::part(file, spot, absent)
 }
 
 // The bytes of the `fact`; of an absent one, what is lent for it where it is needed and where not.
@@ -37,9 +44,9 @@ fn fact_part<'a>(
     ensures part { λ r. ⌜ now r ≡ partOf (now (file .entry)) spot (cond (needsFact format) (now (needed .entry)) (now (needless .entry))) ⌝ }
 {
     if formats::needs_fact(format) {
-        return riff::part(file, spot, needed);
+        return chunk_data(file, spot, needed);
     }
-    riff::part(file, spot, needless)
+    chunk_data(file, spot, needless)
 }
 
 // What the chunks of a file say, and the verdict on it. Four zeros are a count of 0: an absent table
@@ -53,12 +60,12 @@ fn read_parts(file: &[u8], places: Directory) -> Reading
     let fact_spot = places.fact;
     let cues_spot = places.cues;
     let plays_spot = places.plays;
-    let fmt = riff::part(file, format_spot, b"");
-    let sound = riff::part(file, sound_spot, b"");
+    let fmt = chunk_data(file, format_spot, b"");
+    let sound = chunk_data(file, sound_spot, b"");
     let format = formats::format_of(fmt);
     let fact = fact_part(file, fact_spot, format, b"", b"\0\0\0\0");
-    let cue = riff::part(file, cues_spot, b"\0\0\0\0");
-    let plst = riff::part(file, plays_spot, b"\0\0\0\0");
+    let cue = chunk_data(file, cues_spot, b"\0\0\0\0");
+    let plst = chunk_data(file, plays_spot, b"\0\0\0\0");
     rules::judge(fmt, BytePlace(sound.len()), fact, cue, plst)
 }
 
@@ -130,9 +137,11 @@ pub fn sound_spot(file: &[u8]) -> Spot
     opened.sound
 }
 
-// The sound data of a file, that very part of it; of a refused file, an empty part.
+// The sound data of a file, that very part of it; of a refused file, the empty part at its start.
 pub fn sound_of(file: &[u8]) -> &[u8]
     ensures part { λ r. ⌜ now r ≡ soundIn (now (file .entry)) ⌝ }
+    ensures lent { λ r. ⌜ r .ptr .0 ≡ file .entry .ptr .0 ⌝ }
+    ensures place { λ r. ⌜ r .ptr .1 ≡ file .entry .ptr .1 + soundStart (now (file .entry)) ⌝ }
 {
     let spot = sound_spot(file);
     riff::part(file, spot, &file[..0])

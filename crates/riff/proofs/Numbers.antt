@@ -60,22 +60,26 @@ leads s (suc n) at d = by (leads s n (record { 0 = nextAt s (at .0) }) (keep d (
         ∙ ap (stepElse s (at .0) d) e
     by e false = refl
 
-head-row : (a b c : Bool) (n : ℕ)
-    → numberOr (decided (check (not a) LengthOutOfRange ∷ check (not b) NotWave ∷ check (not c) RiffSizeWrong ∷ [])) n
-    ≡ cond a 1 (cond b 2 (cond c 3 n))
-unfolding decided
-head-row true b c n = refl
-head-row false true c n = refl
-head-row false false true n = refl
-head-row false false false n = refl
+pub walk-row : (s : List ℕ) → walkedNumber (walkOf s) ≡ walkNumber s
+unfolding walkOf stepsOf walkNumber
+walk-row s = leads s (length s) (record { 0 = 12 }) nothingYet
+
+pub head-row : (s : List ℕ) (n : ℕ) → numberOr (headVerdict s) n ≡ cond (badLength s) 1 (cond (noWave s) 2 (cond (badSize s) 3 n))
+unfolding headVerdict decided
+head-row s n = by (badLength s) (noWave s) (badSize s)
+  where
+    by : (a b c : Bool)
+        → numberOr (decided (check (not a) LengthOutOfRange ∷ check (not b) NotWave ∷ check (not c) RiffSizeWrong ∷ [])) n
+        ≡ cond a 1 (cond b 2 (cond c 3 n))
+    by true b c = refl
+    by false true c = refl
+    by false false true = refl
+    by false false false = refl
 
 pub walk-numbered : WalkNumbered
-unfolding WalkNumbered directoryOf walkOf stepsOf walkNumber headVerdict
-walk-numbered s =
-    opened (headVerdict s) (gather nothingYet (stepsFrom (length s) s (record { 0 = 12 }) nothingYet))
-    ∙ ap (numberOr (headVerdict s)) (leads s (length s) (record { 0 = 12 }) nothingYet)
-    ∙ head-row (badLength s) (noWave s) (badSize s) (numberFrom (length s) s 12 nothingYet)
+unfolding WalkNumbered directoryOf
+walk-numbered s = by (headVerdict s) (walkOf s) ∙ ap (numberOr (headVerdict s)) (walk-row s) ∙ head-row s (walkNumber s)
   where
-    opened : (v : Verdict) (w : Walked) → walkedNumber (afterHead v w) ≡ numberOr v (walkedNumber w)
-    opened verdict.Accepted w = refl
-    opened (verdict.Refused r) w = refl
+    by : (v : Verdict) (w : Walked) → walkedNumber (afterHead v w) ≡ numberOr v (walkedNumber w)
+    by verdict.Accepted w = refl
+    by (verdict.Refused r) w = refl
