@@ -25,6 +25,7 @@ use Rattle.rules.specs.declared.Record.{Record}
 use Rattle.rules.specs.declared.Reading.{Reading}
 use Rattle.rules.specs.Rules.{inOrder, recordVerdict, blank}
 use Rattle.reader.specs.Content.{reading, soundIn}
+use Rattle.reader.specs.Demands.{Refusing}
 use Rattle.reader.proofs.Demands.{sound-placed, refusing}
 use Rattle.reader.proofs.Kept.{content-taken, content-rules}
 use Rattle.writer.specs.declared.Written.{Written}
@@ -96,6 +97,7 @@ module _ (s t : List ℕ) (number : Donation) (limit : Frames) {side song : Read
 
 -- no file that is read has more than 64 cues or entries
 read-few : (s : List ℕ) → (reading s .made .cues .count ≤ 64) × (reading s .made .playlist .count ≤ 64)
+unfolding Refusing
 read-few s = by (reading s .verdict) refl
   where
     by : (v : Verdict) → reading s .verdict ≡ v → (reading s .made .cues .count ≤ 64) × (reading s .made .playlist .count ≤ 64)

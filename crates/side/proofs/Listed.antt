@@ -17,8 +17,7 @@ use Rattle.formats.specs.declared.Format.{Format}
 use Rattle.formats.proofs.Taken.{taken-align}
 use Rattle.tables.specs.declared.Cue.{Cue}
 use Rattle.tables.specs.declared.Play.{Play}
-use Rattle.tables.specs.Cues.{namesIn, placesIn}
-use Rattle.tables.specs.Plays.{noPlay, playable, allPlayable, playsRule}
+use Rattle.tables.specs.Plays.{noPlay, isCue, cuePlace, playsFrom, playable, allPlayable, playsRule}
 use Rattle.rules.specs.declared.Record.{Record}
 use Rattle.side.specs.Side.{Song, cueList, playList, tiled, framesAt, songsOf, songsHeld, isListed, listedSound}
 use Rattle.side.proofs.Songs.{by-tiles, side-tiled}
@@ -92,21 +91,18 @@ module _ (f : Format) (w : List ℕ) (frames : ℕ) (a : 1 ≤ f .align) (l : le
 -- ---- so it is on a side
 module _ {m : Record} {w : List ℕ} (k : Standing m w) where
   entry-some : (i : ℕ) → i < length (playList m) → 1 ≤ getD (playList m) i noPlay .length .0
-  unfolding playList playsRule allPlayable playable
+  unfolding playList playsRule allPlayable playable playsFrom
   entry-some i h =
       let n : ℕ = m .playlist .count in
-      let names : List ℕ = namesIn (m .cues) in
-      let places : List ℕ = placesIn (m .cues) in
       let p : Play = getD (m .playlist .list) i noPlay in
       let g : i < n = omega (arith, length-take n (m .playlist .list)) in
-      let r = and-both (leb n 64) (allPlayable names places (m .frames) (m .playlist .list) n) (k .rules .plays) .1 in
+      let r = and-both (leb n 64) (allPlayable (m .cues) (m .frames) (m .playlist .list) n) (k .rules .plays) .1 in
       let e =
-      every-at (λ j. playable names places (m .frames) (getD (m .playlist .list) j noPlay)) 0 n i r (omega arith) (omega arith) in
-      let x : Bool = has (p .name .0) names in
-      let y : Bool = leb 1 (p .length .0) in
-      let z : Bool = leb (getD places (indexIn (p .name .0) names) 0 + p .length .0) (m .frames .0) in
-      let q = and-both (x && y) z (and-both (x && y && z) (leb 1 (p .times)) e .0) .0 in
-      rw (getD-take n (m .playlist .list) i noPlay g) (leb-true 1 (p .length .0) (and-both x y q .1))
+      every-at (λ j. playable (m .cues) (m .frames) (getD (m .playlist .list) j noPlay)) 0 n i r (omega arith) (omega arith) in
+      let x : Bool = leb 1 (p .length .0) in
+      let y : Bool = leb (cuePlace (m .cues) (p .name) .0 + p .length .0) (m .frames .0) in
+      let q = and-both (isCue (m .cues) (p .name)) (x && y && leb 1 (p .times)) e .1 in
+      rw (getD-take n (m .playlist .list) i noPlay g) (leb-true 1 (p .length .0) (and-both x y (and-both (x && y) (leb 1 (p .times)) q .0) .0))
 
   pub sound-some : (number : Donation) → isListed number (songsHeld m w) ≡ true → 1 ≤ length (listedSound number (songsHeld m w))
   unfolding songsHeld

@@ -8,55 +8,69 @@ use native.Mathlib.Omega.{arith}
 use lib.Dec.{leb, ltb}
 use lib.ListN.{length, getD, set, length-append, List·getD-append}
 use lib.Seq.{getD-append-seam, getD-set-same, getD-set-other}
-use borrow.Author.Tests.{le-leb, leb-true, ltb-true}
+use borrow.Author.Tests.{le-leb, lt-ltb, leb-true, ltb-true}
 use Rattle.lists.specs.Among.{indexIn, has, distinct}
 use Rattle.lists.specs.Every.{every, allBelow}
 use Rattle.lists.proofs.Laws.{and-both}
+use Rattle.units.specs.declared.Donation.{Donation}
 use Rattle.units.specs.declared.Frames.{Frames}
 use Rattle.tables.specs.declared.Cue.{Cue}
 use Rattle.tables.specs.declared.Cues.{Cues}
 use Rattle.tables.specs.declared.Play.{Play}
 use Rattle.tables.specs.declared.Playlist.{Playlist}
 use Rattle.tables.specs.Cues.{nameOf, placeOf, namesIn, placesIn, cuesRule}
-use Rattle.tables.specs.Plays.{noPlay, playable, allPlayable, playsRule}
+use Rattle.tables.specs.Plays.{noPlay, isCue, cuePlace, playsFrom, playable, allPlayable, playsRule}
 use Rattle.tables.specs.More.{cuesWith, playsWith}
 use Rattle.tables.proofs.Rules.{play-within}
 use Rattle.lists.proofs.Behind.{index-stays, index-last, distinct-more, every-more, below-more}
 use Rattle.tables.proofs.Behind.{names-places, names-more, places-more}
 
--- ---- one entry, with a name and a place behind the others
-module _ (names places : List ℕ) (name place : ℕ) (g : Frames) (same : length names ≡ length places) (p : Play) where
-  play-stays : (f : Frames) → f .0 ≤ g .0 → playable names places f p ≡ true
-      → playable (names ++ (name ∷ [])) (places ++ (place ∷ [])) g p ≡ true
-  unfolding playable has
-  play-stays f l e =
-      let i : ℕ = indexIn (p .name .0) names in
-      let a : Bool = ltb i (length names) in
-      let b : Bool = leb 1 (p .length .0) in
-      let d : Bool = leb (getD places i 0 + p .length .0) (f .0) in
-      let x = and-both (a && b && d) (leb 1 (p .times)) e in
-      let y = and-both (a && b) d (x .0) in
-      let z = and-both a b (y .0) in
-      let h : i < length names = ltb-true i (length names) (z .0) in
-      sym (play-within (names ++ (name ∷ [])) (places ++ (place ∷ [])) g p {found = i} (sym (index-stays (p .name .0) name names (z .0)))
-      (omega (arith, length-append names (name ∷ [])))
-      (leb-true 1 (p .length .0) (z .1))
-      (omega (
-        arith,
-        leb-true (getD places i 0 + p .length .0) (f .0) (y .1),
-        List·getD-append places (place ∷ []) 0 i (omega arith),
-      )))
-      ∙ x .1
+-- ---- a cue looked up in a table that has one more: an old one stays where it is, and the new one is found
+module _ (c : Cues) (x : Cue) (room : length (c .list) ≡ 64) (few : c .count < 64) (n : Donation) where
+  abbrev names : List ℕ
+  names = namesIn c ++ (nameOf x ∷ [])
 
-  play-last : p .name .0 ≡ name → has name names ≡ false → 1 ≤ p .length .0 → place + p .length .0 ≤ g .0 → 1 ≤ p .times
-      → playable (names ++ (name ∷ [])) (places ++ (place ∷ [])) g p ≡ true
-  play-last e n h l t =
-      sym (play-within (names ++ (name ∷ [])) (places ++ (place ∷ [])) g p {found = length names}
-      (sym (ap (λ (k : ℕ). indexIn k (names ++ (name ∷ []))) e ∙ index-last name names n))
-      (omega (arith, length-append names (name ∷ [])))
-      h
-      (omega (arith, ap (λ (k : ℕ). getD (places ++ (place ∷ [])) k 0) same, getD-append-seam places place [] 0)))
-      ∙ le-leb 1 (p .times) t
+  abbrev places : List ℕ
+  places = placesIn c ++ (placeOf x ∷ [])
+
+  -- by its index, in both lists
+  looked : (i p : ℕ) → indexIn (n .0) names ≡ i → i < length names → getD places i 0 ≡ p
+      → (isCue (cuesWith c x) n ≡ true) × (cuePlace (cuesWith c x) n ≡ record { 0 = p })
+  unfolding isCue cuePlace has
+  looked i p e h g = (
+    (λ k. ltb (indexIn (n .0) (names-more c x room few k)) (length (names-more c x room few k)))
+        ∙ lt-ltb (indexIn (n .0) names) (length names) (omega arith),
+    (λ k. record { 0 = getD (places-more c x room few k) (indexIn (n .0) (names-more c x room few k)) 0 })
+        ∙ (λ k. record { 0 = getD places (e k) 0 })
+        ∙ (λ k. record { 0 = g k }),
+  )
+
+  cue-stays : isCue c n ≡ true → (isCue (cuesWith c x) n ≡ true) × (cuePlace (cuesWith c x) n ≡ cuePlace c n)
+  unfolding isCue cuePlace has
+  cue-stays e =
+      let i : ℕ = indexIn (n .0) (namesIn c) in
+      let h : i < length (namesIn c) = ltb-true i (length (namesIn c)) e in
+      looked i (getD (placesIn c) i 0) (index-stays (n .0) (nameOf x) (namesIn c) e)
+      (omega (arith, length-append (namesIn c) (nameOf x ∷ [])))
+      (List·getD-append (placesIn c) (placeOf x ∷ []) 0 i (omega (arith, names-places c)))
+
+  cue-last : n .0 ≡ nameOf x → has (nameOf x) (namesIn c) ≡ false
+      → (isCue (cuesWith c x) n ≡ true) × (cuePlace (cuesWith c x) n ≡ x .place)
+  cue-last e new =
+      looked (length (namesIn c)) (placeOf x)
+      (ap (λ (k : ℕ). indexIn k names) e ∙ index-last (nameOf x) (namesIn c) new)
+      (omega (arith, length-append (namesIn c) (nameOf x ∷ [])))
+      (ap (λ (k : ℕ). getD places k 0) (names-places c) ∙ getD-append-seam (placesIn c) (placeOf x) [] 0)
+
+-- an entry that plays within F plays within more
+plays-longer : (place f g : Frames) (p : Play) → f .0 ≤ g .0 → playsFrom place f p ≡ true → playsFrom place g p ≡ true
+unfolding playsFrom
+plays-longer place f g p l e =
+    let x = and-both (leb 1 (p .length .0) && leb (place .0 + p .length .0) (f .0)) (leb 1 (p .times)) e in
+    let y = and-both (leb 1 (p .length .0)) (leb (place .0 + p .length .0) (f .0)) (x .0) in
+    sym (play-within place g p (leb-true 1 (p .length .0) (y .0))
+    (omega (arith, leb-true (place .0 + p .length .0) (f .0) (y .1))))
+    ∙ x .1
 
 -- ---- the rules
 pub cues-few : (c : Cues) (f : Frames) → cuesRule c f ≡ true → c .count ≤ 64
@@ -68,7 +82,7 @@ cues-few c f e =
 pub plays-few : (p : Playlist) (c : Cues) (f : Frames) → playsRule p c f ≡ true → p .count ≤ 64
 unfolding playsRule
 plays-few p c f e =
-    leb-true (p .count) 64 (and-both (leb (p .count) 64) (allPlayable (namesIn c) (placesIn c) f (p .list) (p .count)) e .0)
+    leb-true (p .count) 64 (and-both (leb (p .count) 64) (allPlayable c f (p .list) (p .count)) e .0)
 
 -- with one more
 module _ (c : Cues) (x : Cue) (room : length (c .list) ≡ 64) (few : c .count < 64) (f g : Frames) (more : f .0 ≤ g .0)
@@ -89,21 +103,23 @@ module _ (c : Cues) (x : Cue) (room : length (c .list) ≡ 64) (few : c .count <
   pub plays-rule-more : (p : Playlist) (y : Play) → length (p .list) ≡ 64 → p .count < 64 → playsRule p c f ≡ true
       → y .name .0 ≡ nameOf x → 1 ≤ y .length .0 → placeOf x + y .length .0 ≤ g .0 → 1 ≤ y .times
       → playsRule (playsWith p y) (cuesWith c x) g ≡ true
-  unfolding playsRule allPlayable playsWith
+  unfolding playsRule allPlayable playsWith playable
   plays-rule-more p y long less e n h l t =
-      let same = names-places c in
       let list : List Play = set (p .list) (p .count) y in
-      let names : List ℕ = namesIn c ++ (nameOf x ∷ []) in
-      let places : List ℕ = placesIn c ++ (placeOf x ∷ []) in
-      let q = and-both (leb (p .count) 64) (allPlayable (namesIn c) (placesIn c) f (p .list) (p .count)) e in
-      let last : playable names places g (getD list (p .count) noPlay) ≡ true =
-      ap (playable names places g) (getD-set-same (p .list) (p .count) y noPlay (omega arith))
-      ∙ play-last (namesIn c) (placesIn c) (nameOf x) (placeOf x) g same y n new h l t in
-      let all : every (λ i. playable names places g (getD list i noPlay)) 0 (p .count + 1) ≡ true =
-      every-more (λ i. playable (namesIn c) (placesIn c) f (getD (p .list) i noPlay)) (λ i. playable names places g (getD list i noPlay))
+      let q = and-both (leb (p .count) 64) (allPlayable c f (p .list) (p .count)) e in
+      let both : (z : Play) (place : Frames) → (isCue (cuesWith c x) (z .name) ≡ true) × (cuePlace (cuesWith c x) (z .name) ≡ place)
+      → playsFrom place g z ≡ true → playable (cuesWith c x) g z ≡ true =
+      λ z place w d. (λ i. w .0 i && playsFrom (w .1 i) g z) ∙ d in
+      let last : playable (cuesWith c x) g (getD list (p .count) noPlay) ≡ true =
+      ap (playable (cuesWith c x) g) (getD-set-same (p .list) (p .count) y noPlay (omega arith))
+      ∙ both y (x .place) (cue-last c x room few (y .name) n new) (sym (play-within (x .place) g y h l) ∙ le-leb 1 (y .times) t) in
+      let all : every (λ i. playable (cuesWith c x) g (getD list i noPlay)) 0 (p .count + 1) ≡ true =
+      every-more (λ i. playable c f (getD (p .list) i noPlay)) (λ i. playable (cuesWith c x) g (getD list i noPlay))
       (p .count) (q .1)
       (λ k b d.
-      ap (playable names places g) (getD-set-other (p .list) (p .count) k y noPlay (λ (r : k ≡ p .count). omega arith))
-      ∙ play-stays (namesIn c) (placesIn c) (nameOf x) (placeOf x) g same (getD (p .list) k noPlay) f more d)
+      let z : Play = getD (p .list) k noPlay in
+      let r = and-both (isCue c (z .name)) (playsFrom (cuePlace c (z .name)) f z) d in
+      ap (playable (cuesWith c x) g) (getD-set-other (p .list) (p .count) k y noPlay (λ (r : k ≡ p .count). omega arith))
+      ∙ both z (cuePlace c (z .name)) (cue-stays c x room few (z .name) (r .0)) (plays-longer (cuePlace c (z .name)) f g z more (r .1)))
       last in
-      simp (le-leb (p .count + 1) 64 (omega arith), names-more c x room few, places-more c x room few, all)
+      simp (le-leb (p .count + 1) 64 (omega arith), all)

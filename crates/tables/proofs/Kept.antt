@@ -8,14 +8,15 @@ use lib.Dec.{leb}
 use lib.ListN.{length, take, getD, replicate, List·getD-append}
 use lib.Seq.{length-take-le, take-at, getD-take}
 use borrow.Author.Tests.{leb-true}
-use Rattle.lists.specs.Among.{distinct}
+use Rattle.lists.specs.Among.{distinct, indexIn, has}
 use Rattle.lists.specs.Every.{every, allBelow}
 use Rattle.units.specs.declared.Frames.{Frames}
 use Rattle.tables.specs.declared.Cues.{Cues}
+use Rattle.tables.specs.declared.Play.{Play}
 use Rattle.tables.specs.declared.Playlist.{Playlist}
 use Rattle.tables.specs.Tables.{held}
 use Rattle.tables.specs.Cues.{noCue, nameOf, placeOf, namesIn, placesIn, cuesRule}
-use Rattle.tables.specs.Plays.{noPlay, playable, allPlayable, playsRule}
+use Rattle.tables.specs.Plays.{noPlay, isCue, cuePlace, playsFrom, playable, allPlayable, playsRule}
 use Rattle.tables.specs.Bytes.{zeroPast, cuesKept, playsKept}
 use Rattle.tables.proofs.Entries.{held-all, held-room}
 
@@ -62,24 +63,30 @@ unfolding cuesRule cuesKept
 cues-rule-kept c f h = λ i. leb (c .count) 64 && distinct (kept-names c h i) && allBelow (f .0) (kept-places c h i)
 
 -- ---- playlists
-module _ (p : Playlist) (h : length (p .list) ≡ 64) (names places : List ℕ) (f : Frames) where
+kept-plays : (c : Cues) (f : Frames) (p : Play) → length (c .list) ≡ 64 → playable (cuesKept c) f p ≡ playable c f p
+unfolding playable isCue cuePlace
+kept-plays c f p h =
+    λ i.
+    has (p .name .0) (kept-names c h i)
+    && playsFrom (record { 0 = getD (kept-places c h i) (indexIn (p .name .0) (kept-names c h i)) 0 }) f p
+
+module _ (p : Playlist) (c : Cues) (f : Frames) (h : length (p .list) ≡ 64) (g : length (c .list) ≡ 64) where
   -- more than 64 are refused as they are
   kept-playable : (b : Bool) → leb (p .count) 64 ≡ b
-      → (b && allPlayable names places f (playsKept p .list) (p .count)) ≡ (b && allPlayable names places f (p .list) (p .count))
+      → (b && allPlayable (cuesKept c) f (playsKept p .list) (p .count)) ≡ (b && allPlayable c f (p .list) (p .count))
   unfolding allPlayable playsKept
   kept-playable false e = refl
   kept-playable true e =
       let n = held-all (p .count) (leb-true (p .count) 64 e) in
       every-same
-      (λ i. playable names places f (getD (zeroPast noPlay (p .count) (p .list)) i noPlay))
-      (λ i. playable names places f (getD (p .list) i noPlay))
+      (λ i. playable (cuesKept c) f (getD (zeroPast noPlay (p .count) (p .list)) i noPlay))
+      (λ i. playable c f (getD (p .list) i noPlay))
       0
       (p .count)
-      (λ i l. ap (playable names places f) (kept-at noPlay (p .count) (p .list) h i (omega arith)))
+      (λ i l.
+      kept-plays c f (getD (zeroPast noPlay (p .count) (p .list)) i noPlay) g
+      ∙ ap (playable c f) (kept-at noPlay (p .count) (p .list) h i (omega arith)))
 
-pub plays-rule-kept : (p : Playlist) (c : Cues) (f : Frames) → length (p .list) ≡ 64 → length (c .list) ≡ 64
-    → playsRule (playsKept p) (cuesKept c) f ≡ playsRule p c f
-unfolding playsRule playsKept
-plays-rule-kept p c f h g =
-    (λ i. leb (p .count) 64 && allPlayable (kept-names c g i) (kept-places c g i) f (playsKept p .list) (p .count))
-    ∙ kept-playable p h (namesIn c) (placesIn c) f (leb (p .count) 64) refl
+  pub plays-rule-kept : playsRule (playsKept p) (cuesKept c) f ≡ playsRule p c f
+  unfolding playsRule playsKept
+  plays-rule-kept = kept-playable (leb (p .count) 64) refl

@@ -7,6 +7,7 @@ use lib.ListN.{getD, set, replicate}
 use Rattle.little.specs.Numbers.{numberAt}
 use Rattle.lists.specs.Among.{indexIn, has}
 use Rattle.lists.specs.Every.{every}
+use Rattle.units.specs.declared.Donation.{Donation}
 use Rattle.units.specs.declared.Frames.{Frames}
 use Rattle.tables.specs.declared.Cues.{Cues}
 use Rattle.tables.specs.declared.Play.{Play}
@@ -46,16 +47,24 @@ playsForm s = tableForm 12 s
 
 -- ---- the rule on what it says
 
--- name in the cue table, length at least 1, offset + length at most F, times at least 1; names and places are the cues'
-unfoldable pub playable : List ℕ → List ℕ → Frames → Play → Bool
-playable names places f p =
-    has (p .name .0) names && leb 1 (p .length .0)
-    && leb (getD places (indexIn (p .name .0) names) 0 + p .length .0) (f .0)
-    && leb 1 (p .times)
+-- a cue has that name, and the place of the one that has it
+unfoldable pub isCue : Cues → Donation → Bool
+isCue c n = has (n .0) (namesIn c)
 
-unfoldable pub allPlayable : List ℕ → List ℕ → Frames → List Play → ℕ → Bool
-allPlayable names places f list n = every (λ i. playable names places f (getD list i noPlay)) 0 n
+unfoldable pub cuePlace : Cues → Donation → Frames
+cuePlace c n = record { 0 = getD (placesIn c) (indexIn (n .0) (namesIn c)) 0 }
+
+-- from a place, which is the cue's offset: length at least 1, offset + length at most F, times at least 1
+unfoldable pub playsFrom : Frames → Frames → Play → Bool
+playsFrom place f p = leb 1 (p .length .0) && leb (place .0 + p .length .0) (f .0) && leb 1 (p .times)
+
+-- and its name is in the cue table
+unfoldable pub playable : Cues → Frames → Play → Bool
+playable c f p = isCue c (p .name) && playsFrom (cuePlace c (p .name)) f p
+
+unfoldable pub allPlayable : Cues → Frames → List Play → ℕ → Bool
+allPlayable c f list n = every (λ i. playable c f (getD list i noPlay)) 0 n
 
 -- at most 64 entries, each playable
 unfoldable pub playsRule : Playlist → Cues → Frames → Bool
-playsRule p c f = leb (p .count) 64 && allPlayable (namesIn c) (placesIn c) f (p .list) (p .count)
+playsRule p c f = leb (p .count) 64 && allPlayable c f (p .list) (p .count)

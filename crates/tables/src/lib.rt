@@ -15,7 +15,7 @@ ghost use Rattle.lists.specs.Among.{indexIn};
 ghost use Rattle.codes.specs.Codes.{codeBytes};
 ghost use Rattle.codes.specs.declared.Code.the-variants.{Data};
 ghost use Rattle.tables.specs.Cues.{noCue, noCues, cueAt, plainCue, cuesIn, cuesOf, cuesForm, nameOf, placeOf, namesIn, cuesRule};
-ghost use Rattle.tables.specs.Plays.{noPlay, noPlays, playAt, playsIn, playsOf, playsForm, playable, allPlayable, playsRule};
+ghost use Rattle.tables.specs.Plays.{noPlay, noPlays, playAt, playsIn, playsOf, playsForm, playsFrom, allPlayable, playsRule};
 ghost use Rattle.tables.specs.Tables.{held};
 ghost use Rattle.tables.specs.More.{cuesWith, playsWith};
 ghost use Rattle.tables.specs.Bytes.{entryBytes, cueBytes, cuesBytes, playBytes, playsBytes};
@@ -290,37 +290,34 @@ pub fn plays_form(bytes: &[u8]) -> bool
     bytes.len() == 4 + 12 * n
 }
 
-// Whether an entry names a cue and plays at least once some frames that are there. names and places
-// are those of the cues.
-fn playable_entry(play: Play, names: &[u32], places: &[u32], frames: Frames) -> bool
-    requires { ⌜ length (now names) ≡ length (now places) ⌝ }
-    ensures answer { λ r. ⌜ r ≡ playable (now (names .entry)) (now (places .entry)) frames play ⌝ }
+// Whether an entry can be played from a place.
+fn plays_from(play: Play, place: Frames, frames: Frames) -> bool
+    ensures answer { λ r. ⌜ r ≡ playsFrom place frames play ⌝ }
 {
-    let name = play.name.0;
-    let found = lists::find(names, name);
-    if names.len() <= found {
-        return false;
-    }
     let length = play.length.0 as u64;
     if length < 1 {
         return false;
     }
-    let place = places[found] as u64;
-    if (frames.0 as u64) < place + length {
+    if (frames.0 as u64) < place.0 as u64 + length {
         return false;
     }
     1 <= play.times
 }
 
-// Whether the first n entries can be played.
-fn all_playable(list: [Play; 64], n: usize, names: &[u32], places: &[u32], frames: Frames) -> bool
-    requires { ⌜ (n ≤ 64) × (length (now names) ≡ length (now places)) ⌝ }
-    ensures answer { λ r. ⌜ r ≡ allPlayable (now (names .entry)) (now (places .entry)) frames list n ⌝ }
+// Whether each of n entries can be played. A cue is looked up by its name; its place is read from the cue itself.
+fn all_playable(list: [Play; 64], n: usize, names: &[u32], cues: Cues, frames: Frames) -> bool
+    requires { ⌜ (n ≤ 64) × (now names ≡ namesIn cues) ⌝ }
+    ensures answer { λ r. ⌜ r ≡ allPlayable cues frames list n ⌝ }
 {
     let mut i = 0;
     while i < n {
         let play = list[i];
-        let valid = playable_entry(play, names, places, frames);
+        let found = lists::find(names, play.name.0);
+        if names.len() <= found {
+            return false;
+        }
+        let cue = cues.list[found];
+        let valid = plays_from(play, cue.place, frames);
         if !valid {
             return false;
         }
@@ -329,7 +326,7 @@ fn all_playable(list: [Play; 64], n: usize, names: &[u32], places: &[u32], frame
     true
 }
 
-// Whether a playlist can be played with some cues.
+// At most 64 entries, each of which can be played.
 pub fn plays_rule(playlist: Playlist, cues: Cues, frames: Frames) -> bool
     ensures answer { λ r. ⌜ r ≡ playsRule playlist cues frames ⌝ }
 {
@@ -340,12 +337,9 @@ pub fn plays_rule(playlist: Playlist, cues: Cues, frames: Frames) -> bool
     let c = held_of(cues.count);
     let cue_list = cues.list;
     let names = names_of(cue_list);
-    let places = places_of(cue_list);
     let list = playlist.list;
-    all_playable(list, s, &names[..c], &places[..c], frames)
+    all_playable(list, s, &names[..c], cues, frames)
 }
-
-// ---- one entry more
 
 // The first place of a name among the cues; where it is none of theirs, how many they are.
 pub fn find_cue(cues: Cues, name: Donation) -> usize
