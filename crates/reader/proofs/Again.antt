@@ -11,7 +11,7 @@ use Rattle.riff.proofs.Walking.{whole-limit}
 use Rattle.rules.specs.declared.Record.{Record}
 use Rattle.rules.specs.Written.{recordKept, RecordFits}
 use Rattle.rules.proofs.Again.{record-fits, kept-read}
-use Rattle.reader.specs.Content.{holds, zeros, formatPart, soundSize, factPart, cuePart, playlistPart, contentOf}
+use Rattle.reader.specs.Content.{holds, zeros, chunksAt, contentOf}
 use Rattle.reader.proofs.Kept.{held, formed}
 
 module _ (s : List ℕ) {m : Record} {w : List ℕ} (e : holds m w ≡ contentOf s) where
@@ -21,13 +21,10 @@ module _ (s : List ℕ) {m : Record} {w : List ℕ} (e : holds m w ≡ contentOf
       let d = h .places in
       let l = whole-limit s refl (h .walked) in
       subst RecordFits (h .made)
-      (record-fits (formatPart s d) (soundSize s d) (factPart s d) (cuePart s d) (playlistPart s d)
-      (part-bytes s (d .cues) zeros t tt) (part-bytes s (d .plays) zeros t tt)
+      (record-fits (chunksAt s d) (part-bytes s (d .cues) zeros t tt) (part-bytes s (d .plays) zeros t tt)
       (omega (arith, part-within s (d .sound))) (formed s d (h .verdict) .rules))
 
   pub content-kept-read : recordKept m ≡ m
   content-kept-read =
       let h = held s e in
-      let d = h .places in
-      subst (λ (x : Record). recordKept x ≡ x) (h .made)
-      (kept-read (formatPart s d) (soundSize s d) (factPart s d) (cuePart s d) (playlistPart s d))
+      subst (λ (x : Record). recordKept x ≡ x) (h .made) (kept-read (chunksAt s (h .places)))

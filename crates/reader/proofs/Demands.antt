@@ -1,11 +1,10 @@
 -- What reading promises besides its definition: each by the cases of what a file holds. Assumes nothing.
 use mathlib.Core.Path.{_≡_, refl, ap, _∙_}
-use mathlib.Core.Bool.{Bool, true, false, not, cond, _&&_, _||_}
+use mathlib.Core.Bool.{Bool, true, false, not, cond, _||_}
 use mathlib.Core.List.{List, []}
 use Prim.Native.Nat.{ℕ}
 use native.Mathlib.Omega.{arith}
 use Rattle.units.specs.declared.Refusal.{Refusal}
-use Rattle.units.specs.declared.Refusal.the-variants.{FormatOrDataMissing}
 use Rattle.units.specs.declared.Verdict.{Verdict}
 use Rattle.units.specs.declared.Verdict.the-variants.{Accepted, Refused}
 use Rattle.riff.specs.declared.Directory.{Directory}
@@ -13,8 +12,8 @@ use Rattle.riff.specs.declared.Spot.{Spot}
 use Rattle.riff.specs.declared.Walked.{Walked}
 use Rattle.riff.specs.declared.Walked.the-variants.{Whole, Stopped}
 use Rattle.units.specs.Refusals.{verdictNumber}
-use Rattle.units.specs.Checks.{numberOr}
-use Rattle.units.proofs.Laws.{demand-row}
+use Rattle.units.specs.Checks.{numberBy, numberOr}
+use Rattle.units.proofs.Checks.{number-row}
 use Rattle.riff.specs.Chunks.{headVerdict, isThere}
 use Rattle.riff.specs.Walk.{partOf, walkOf, afterHead, walkedNumber, directoryOf}
 use Rattle.riff.specs.Demands.{walkNumber}
@@ -23,8 +22,8 @@ use Rattle.tables.specs.Cues.{noCue}
 use Rattle.tables.specs.Plays.{noPlay}
 use Rattle.tables.proofs.Entries.{all-zero, cues-zero, plays-zero}
 use Rattle.rules.specs.declared.Record.{Record}
-use Rattle.rules.specs.Rules.{recordOf, inOrder, verdictOf, blank}
-use Rattle.reader.specs.Content.{Content, refused, holds, contentBy, soundPart, cuePart, playlistPart, recordAt, verdictAt, contentAt, contentIn, contentOf, readingOf, soundOf, reading, soundIn, spotBy, soundSpot}
+use Rattle.rules.specs.Rules.{recordOf, chunkChecks, blank}
+use Rattle.reader.specs.Content.{Content, refused, holds, contentBy, soundPart, cuePart, playlistPart, recordAt, checksAt, verdictAt, contentIn, contentOf, readingOf, soundOf, reading, soundIn, spotBy, soundSpot}
 use Rattle.reader.specs.Demands.{chunkNumber, ReadNumbered, Tied, Placed, Refusing, ZeroAfter, ZeroPast}
 
 pub tied : Tied
@@ -36,18 +35,16 @@ tied s = by (contentOf s)
     by (holds m w) = refl
 
 pub placed : Placed
-unfolding Placed reading soundIn contentOf contentAt soundSpot
+unfolding Placed reading soundIn contentOf soundSpot
 placed s = by (directoryOf s)
   where
-    at : (d : Directory) (b : Bool) (v : Verdict) (m : Record)
-        → partOf s (spotBy (readingOf (cond b (contentBy v m (soundPart s d)) (refused FormatOrDataMissing)) .verdict) (Whole d)) []
-        ≡ soundOf (cond b (contentBy v m (soundPart s d)) (refused FormatOrDataMissing))
-    at d true Accepted m = refl
-    at d true (Refused r) m = refl
-    at d false v m = refl
+    at : (d : Directory) (v : Verdict) (m : Record)
+        → partOf s (spotBy (readingOf (contentBy v m (soundPart s d)) .verdict) (Whole d)) [] ≡ soundOf (contentBy v m (soundPart s d))
+    at d Accepted m = refl
+    at d (Refused r) m = refl
 
     by : (w : Walked) → partOf s (spotBy (readingOf (contentIn s w) .verdict) w) [] ≡ soundOf (contentIn s w)
-    by (Whole d) = at d (isThere (d .format) && isThere (d .sound)) (verdictAt s d) (recordAt s d)
+    by (Whole d) = at d (verdictAt s d) (recordAt s d)
     by (Stopped r) = refl
 
 -- in the words of the code
@@ -69,18 +66,12 @@ module _ (P : Content → Type 0) (none : (r : Refusal) → P (refused r)) where
   either Accepted m w p = p
   either (Refused r) m w p = none r
 
-  demanded : (b : Bool) (c : Content) → P c → P (cond b c (refused FormatOrDataMissing))
-  demanded true c p = p
-  demanded false c p = none FormatOrDataMissing
-
   in-content : (s : List ℕ) → ((d : Directory) → P (holds (recordAt s d) (soundPart s d))) → P (contentOf s)
-  unfolding contentOf contentAt
+  unfolding contentOf
   in-content s some = by (directoryOf s)
     where
       by : (w : Walked) → P (contentIn s w)
-      by (Whole d) =
-          demanded (isThere (d .format) && isThere (d .sound)) _
-          (either (verdictAt s d) (recordAt s d) (soundPart s d) (some d))
+      by (Whole d) = either (verdictAt s d) (recordAt s d) (soundPart s d) (some d)
       by (Stopped r) = none r
 
 pub zero-past : ZeroPast
@@ -91,19 +82,22 @@ zero-past s =
     s
     (λ d. record { cues = λ i h. cues-zero (cuePart s d) i h; plays = λ i h. plays-zero (playlistPart s d) i h })
 
--- ---- the number: each demand is a row of the table
-taken-row : (a b : Bool) (v : Verdict) (m : Record) (w : List ℕ)
-    → verdictNumber (readingOf (cond (a && b) (contentBy v m w) (refused FormatOrDataMissing)) .verdict) ≡ cond (not a || not b) 8 (verdictNumber v)
-taken-row true true Accepted m w = refl
-taken-row true true (Refused r) m w = refl
-taken-row true false v m w = refl
-taken-row false b v m w = refl
+-- ---- the number: each check is a row of the table
+pub taken-verdict : (v : Verdict) (m : Record) (w : List ℕ) → readingOf (contentBy v m w) .verdict ≡ v
+taken-verdict Accepted m w = refl
+taken-verdict (Refused r) m w = refl
+
+either-row : (a b : Bool) (k n : ℕ) → cond (not a) k (cond (not b) k n) ≡ cond (not a || not b) k n
+either-row true b k n = refl
+either-row false b k n = refl
 
 chunk-rows : (s : List ℕ) (w : Walked) → walkedNumber w ≡ walkNumber s → verdictNumber (readingOf (contentIn s w) .verdict) ≡ chunkNumber s w
-unfolding contentAt verdictOf inOrder
+unfolding checksAt chunkChecks numberBy
 chunk-rows s (Stopped r) e = e
 chunk-rows s (Whole d) e =
-    taken-row (isThere (d .format)) (isThere (d .sound)) (verdictAt s d) (recordAt s d) (soundPart s d) ∙ simp demand-row
+    ap verdictNumber (taken-verdict (verdictAt s d) (recordAt s d) (soundPart s d))
+    ∙ number-row (checksAt s d)
+    ∙ either-row (isThere (d .format)) (isThere (d .sound)) 8 _
 
 pub numbered : ReadNumbered
 unfolding ReadNumbered reading contentOf directoryOf

@@ -1,34 +1,34 @@
 -- What a file that is taken keeps, by the verdict on its chunks; and what a file holds, in the words of callers. Assumes nothing.
 use mathlib.Core.Path.{_≡_, refl, sym, ap, _∙_, subst}
-use mathlib.Core.Bool.{Bool, true, false, cond, _&&_}
+use mathlib.Core.Bool.{Bool, true}
 use mathlib.Core.List.{List}
 use Prim.Native.Nat.{ℕ}
 use lib.ListN.{length}
 use Rattle.lists.proofs.Laws.{and-both}
 use Rattle.units.specs.declared.Refusal.{Refusal}
-use Rattle.units.specs.declared.Refusal.the-variants.{FormatOrDataMissing}
 use Rattle.units.specs.declared.Verdict.{Verdict}
 use Rattle.units.specs.declared.Verdict.the-variants.{Accepted, Refused}
+use Rattle.units.specs.Checks.{AllMet}
+use Rattle.units.proofs.Checks.{all-met}
 use Rattle.riff.specs.declared.Directory.{Directory}
 use Rattle.riff.specs.declared.Walked.{Walked}
 use Rattle.riff.specs.declared.Walked.the-variants.{Whole, Stopped}
 use Rattle.riff.specs.Chunks.{isThere}
 use Rattle.riff.specs.Walk.{directoryOf}
-use Rattle.formats.specs.Format.{formatForm, formatRule}
-use Rattle.formats.specs.Frames.{wholeBlocks, factForm, framesRule, Sounding}
-use Rattle.tables.specs.Cues.{cuesForm, cuesRule}
-use Rattle.tables.specs.Plays.{playsForm, playsRule}
+use Rattle.formats.specs.Format.{formatForm}
+use Rattle.formats.specs.Frames.{factForm, Sounding}
+use Rattle.tables.specs.Cues.{cuesForm}
+use Rattle.tables.specs.Plays.{playsForm}
 use Rattle.rules.specs.declared.Record.{Record}
 use Rattle.rules.specs.declared.Reading.{Reading}
-use Rattle.rules.specs.Rules.{valid, formatValid, factValid, cuesValid, playsValid, verdictOf, Writable}
-use Rattle.rules.proofs.Taken.{in-order}
-use Rattle.reader.specs.Content.{Content, refused, holds, contentBy, formatPart, soundPart, soundSize, factPart, cuePart, playlistPart, recordAt, verdictAt, contentAt, contentIn, contentOf, reading, soundIn}
+use Rattle.rules.specs.Rules.{valid, chunkChecks, Writable}
+use Rattle.reader.specs.Content.{Content, refused, holds, contentBy, formatPart, soundPart, soundSize, factPart, cuePart, playlistPart, recordAt, checksAt, verdictAt, contentIn, contentOf, reading, soundIn}
 use Rattle.reader.specs.Demands.{Tied}
 use Rattle.reader.proofs.Demands.{tied}
 
-both : (a b : Bool) → valid a b ≡ true → (a ≡ true) × (b ≡ true)
+both : {a b : Bool} → valid a b ≡ true → (a ≡ true) × (b ≡ true)
 unfolding valid
-both a b e = and-both a b e
+both {a} {b} e = and-both a b e
 
 -- ---- a file that is taken: where its chunks stand, and what they say
 pub record Held (s : List ℕ) (m : Record) (w : List ℕ) : Type 0 where
@@ -45,19 +45,17 @@ HeldIn s (refused r) = Unit {0}
 HeldIn s (holds m w) = Held s m w
 
 held-in : (s : List ℕ) → HeldIn s (contentOf s)
-unfolding contentOf contentAt
+unfolding contentOf checksAt AllMet
 held-in s = by (directoryOf s) refl
   where
-    at : (d : Directory) (a b : Bool) (v : Verdict) → directoryOf s ≡ Whole d → isThere (d .format) ≡ a → isThere (d .sound) ≡ b
-        → verdictAt s d ≡ v → HeldIn s (cond (a && b) (contentBy v (recordAt s d) (soundPart s d)) (refused FormatOrDataMissing))
-    at d true true Accepted e f g h =
-        record { places = d; walked = e; formatThere = f; soundThere = g; verdict = h; made = refl; sound = refl }
-    at d true true (Refused r) e f g h = tt
-    at d true false v e f g h = tt
-    at d false b v e f g h = tt
+    at : (d : Directory) (v : Verdict) → directoryOf s ≡ Whole d → verdictAt s d ≡ v → HeldIn s (contentBy v (recordAt s d) (soundPart s d))
+    at d Accepted e h =
+        let a = all-met (checksAt s d) h in
+        record { places = d; walked = e; formatThere = a .0; soundThere = a .1 .0; verdict = h; made = refl; sound = refl }
+    at d (Refused r) e h = tt
 
     by : (w : Walked) → directoryOf s ≡ w → HeldIn s (contentIn s w)
-    by (Whole d) e = at d (isThere (d .format)) (isThere (d .sound)) (verdictAt s d) e refl refl refl
+    by (Whole d) e = at d (verdictAt s d) e refl
     by (Stopped r) e = tt
 
 pub held : (s : List ℕ) {m : Record} {w : List ℕ} → holds m w ≡ contentOf s → Held s m w
@@ -72,22 +70,19 @@ pub record Formed (s : List ℕ) (d : Directory) : Type 0 where
   pub rules : Writable (recordAt s d) (soundSize s d)
 
 pub formed : (s : List ℕ) (d : Directory) → verdictAt s d ≡ Accepted → Formed s d
-unfolding verdictOf
+unfolding checksAt chunkChecks AllMet
 formed s d e =
-    let m : Record = recordAt s d in
-    let k =
-    in-order (formatValid (formatPart s d) (m .format)) (wholeBlocks (m .format) (soundSize s d)) (factValid (factPart s d) (m .format) (soundSize s d) (m .frames))
-    (cuesValid (cuePart s d) (m .cues) (m .frames)) (playsValid (playlistPart s d) (m .playlist) (m .cues) (m .frames)) e in
-    let f = both (formatForm (formatPart s d)) (formatRule (m .format)) (k .format) in
-    let g = both (factForm (factPart s d)) (framesRule (m .format) (soundSize s d) (m .frames)) (k .fact) in
-    let c = both (cuesForm (cuePart s d)) (cuesRule (m .cues) (m .frames)) (k .cues) in
-    let p = both (playsForm (playlistPart s d)) (playsRule (m .playlist) (m .cues) (m .frames)) (k .plays) in
+    let a = all-met (checksAt s d) e .1 .1 in
+    let f = both (a .0) in
+    let g = both (a .1 .1 .0) in
+    let c = both (a .1 .1 .1 .0) in
+    let p = both (a .1 .1 .1 .1 .0) in
     record {
       format = f .0;
       fact = g .0;
       cues = c .0;
       plays = p .0;
-      rules = record { format = f .1; whole = k .whole; count = g .1; cues = c .1; plays = p .1 };
+      rules = record { format = f .1; whole = a .1 .0; count = g .1; cues = c .1; plays = p .1 };
     }
 
 -- ---- in the words of callers

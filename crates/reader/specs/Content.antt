@@ -1,6 +1,6 @@
 -- What a file holds: a record and its sound, or the refusal. Assumes nothing.
 use Prim.Native.Nat.{ℕ}
-use mathlib.Core.Bool.{cond, _&&_}
+use mathlib.Core.Bool.{cond}
 use mathlib.Core.List.{List, [], _∷_}
 use lib.ListN.{length}
 use Rattle.units.specs.declared.BytePlace.{BytePlace}
@@ -8,6 +8,7 @@ use Rattle.units.specs.declared.Refusal.{Refusal}
 use Rattle.units.specs.declared.Refusal.the-variants.{FormatOrDataMissing}
 use Rattle.units.specs.declared.Verdict.{Verdict}
 use Rattle.units.specs.declared.Verdict.the-variants.{Accepted, Refused}
+use Rattle.units.specs.Checks.{Check, check, decided}
 use Rattle.riff.specs.declared.Directory.{Directory}
 use Rattle.riff.specs.declared.Spot.{Spot}
 use Rattle.riff.specs.declared.Spot.the-variants.{Missing}
@@ -20,7 +21,7 @@ use Rattle.formats.specs.Format.{formatOf}
 use Rattle.formats.specs.Frames.{needsFact}
 use Rattle.rules.specs.declared.Record.{Record}
 use Rattle.rules.specs.declared.Reading.{Reading}
-use Rattle.rules.specs.Rules.{recordOf, verdictOf, turnedAway}
+use Rattle.rules.specs.Rules.{ChunkBytes, recordOf, chunkChecks, turnedAway}
 
 -- ---- the bytes of each chunk
 
@@ -46,6 +47,11 @@ cuePart s d = partOf s (d .cues) zeros
 abbrev pub playlistPart : List ℕ → Directory → List ℕ
 playlistPart s d = partOf s (d .plays) zeros
 
+-- what is judged of them
+abbrev pub chunksAt : List ℕ → Directory → ChunkBytes
+chunksAt s d =
+    record { format = formatPart s d; sound = soundSize s d; fact = factPart s d; cues = cuePart s d; plays = playlistPart s d }
+
 -- ---- what a file holds
 
 pub data Content : Type 0 where
@@ -59,16 +65,20 @@ contentBy (Refused r) m w = refused r
 
 -- what the chunks say
 abbrev pub recordAt : List ℕ → Directory → Record
-recordAt s d = recordOf (formatPart s d) (soundSize s d) (factPart s d) (cuePart s d) (playlistPart s d)
-
--- 9 to 13
-abbrev pub verdictAt : List ℕ → Directory → Verdict
-verdictAt s d = verdictOf (formatPart s d) (soundSize s d) (factPart s d) (cuePart s d) (playlistPart s d) (recordAt s d)
+recordAt s d = recordOf (chunksAt s d)
 
 -- 8: no `fmt ` or no `data`; then 9 to 13
-unfoldable pub contentAt : List ℕ → Directory → Content
-contentAt s d =
-    cond (isThere (d .format) && isThere (d .sound)) (contentBy (verdictAt s d) (recordAt s d) (soundPart s d)) (refused FormatOrDataMissing)
+unfoldable pub checksAt : List ℕ → Directory → List Check
+checksAt s d =
+    check (isThere (d .format)) FormatOrDataMissing
+    ∷ check (isThere (d .sound)) FormatOrDataMissing
+    ∷ chunkChecks (chunksAt s d) (recordAt s d)
+
+abbrev pub verdictAt : List ℕ → Directory → Verdict
+verdictAt s d = decided (checksAt s d)
+
+abbrev pub contentAt : List ℕ → Directory → Content
+contentAt s d = contentBy (verdictAt s d) (recordAt s d) (soundPart s d)
 
 -- 1 to 7, then 8 to 13
 abbrev pub contentIn : List ℕ → Walked → Content

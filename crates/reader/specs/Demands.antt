@@ -17,7 +17,8 @@ use Rattle.tables.specs.Cues.{noCue}
 use Rattle.tables.specs.Plays.{noPlay}
 use Rattle.rules.specs.declared.Record.{Record}
 use Rattle.rules.specs.Rules.{formatValid, factValid, cuesValid, playsValid, blank}
-use Rattle.reader.specs.Content.{formatPart, soundSize, factPart, cuePart, playlistPart, recordAt, contentBy, contentOf, reading, soundSpot, soundIn}
+use Rattle.reader.specs.Content.{formatPart, soundSize, factPart, cuePart, playlistPart, recordAt, contentBy, contentOf}
+use Rattle.reader.specs.Content.{reading, soundSpot, soundIn}
 
 -- ---- the number that a file gets, in the order of checks and the numbers of document 01; 0 is taken
 

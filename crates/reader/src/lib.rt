@@ -16,9 +16,9 @@ ghost use lib.ListN.{length};
 ghost use Rattle.units.specs.Refusals.{fileLimit};
 ghost use Rattle.formats.specs.Frames.{needsFact};
 ghost use Rattle.riff.specs.Walk.{partOf};
-ghost use Rattle.rules.specs.Rules.{readingBy};
+ghost use Rattle.rules.specs.Rules.{judged};
 ghost use Rattle.riff.specs.declared.Walked.the-variants.{Whole};
-ghost use Rattle.reader.specs.Content.{verdictAt, recordAt, contentAt, readingOf, reading, spotBy, soundSpot, soundIn, soundStart};
+ghost use Rattle.reader.specs.Content.{chunksAt, contentAt, readingOf, reading, spotBy, soundSpot, soundIn, soundStart};
 
 // What a file says, and where its sound data stand.
 pub struct Opened {
@@ -41,7 +41,8 @@ fn fact_part<'a>(
     needed: &'a [u8],
     needless: &'a [u8],
 ) -> &'a [u8]
-    ensures part { λ r. ⌜ now r ≡ partOf (now (file .entry)) spot (cond (needsFact format) (now (needed .entry)) (now (needless .entry))) ⌝ }
+    ensures part { λ r. ⌜ now r ≡ partOf (now (file .entry)) spot
+        (cond (needsFact format) (now (needed .entry)) (now (needless .entry))) ⌝ }
 {
     if formats::needs_fact(format) {
         return chunk_data(file, spot, needed);
@@ -53,7 +54,7 @@ fn fact_part<'a>(
 // is read as an empty one.
 fn read_parts(file: &[u8], places: Directory) -> Reading
     requires { ⌜ length (now file) ≤ fileLimit ⌝ }
-    ensures answer { λ r. ⌜ r ≡ readingBy (verdictAt (now (file .entry)) places) (recordAt (now (file .entry)) places) ⌝ }
+    ensures answer { λ r. ⌜ r ≡ judged (chunksAt (now (file .entry)) places) ⌝ }
 {
     let format_spot = places.format;
     let sound_spot = places.sound;
@@ -66,7 +67,7 @@ fn read_parts(file: &[u8], places: Directory) -> Reading
     let fact = fact_part(file, fact_spot, format, b"", b"\0\0\0\0");
     let cue = chunk_data(file, cues_spot, b"\0\0\0\0");
     let plst = chunk_data(file, plays_spot, b"\0\0\0\0");
-    rules::judge(fmt, BytePlace(sound.len()), fact, cue, plst)
+    rules::judge(fmt, format, BytePlace(sound.len()), fact, cue, plst)
 }
 
 // What a file with these chunks says.

@@ -15,6 +15,8 @@ use Rattle.units.specs.declared.Refusal.{Refusal}
 use Rattle.units.specs.declared.Refusal.the-variants.{FormatWrong, FactWrong}
 use Rattle.units.specs.declared.Verdict.{Verdict}
 use Rattle.units.specs.declared.Verdict.the-variants.{Accepted, Refused}
+use Rattle.units.specs.Checks.{decided, SameSoFar}
+use Rattle.units.proofs.Checks.{same-verdict}
 use Rattle.formats.specs.declared.Format.{Format}
 use Rattle.formats.specs.Format.{formatOf, formatForm, formatRule}
 use Rattle.formats.specs.Frames.{wholeBlocks, framesOf, factForm, needsFact, framesRule}
@@ -33,25 +35,9 @@ use Rattle.tables.proofs.Back.{cues-back, plays-back}
 use Rattle.tables.proofs.Kept.{cues-rule-kept, plays-rule-kept}
 use Rattle.tables.proofs.Written.{cues-written, cues-many, plays-written, plays-many}
 use Rattle.rules.specs.declared.Record.{Record}
-use Rattle.rules.specs.Rules.{valid, formatValid, factValid, cuesValid, playsValid, inOrder, verdictOf, recordVerdict, Writable, recordOf}
-use Rattle.rules.specs.Written.{recordKept, RecordFits, FaultSaid}
+use Rattle.rules.specs.Rules.{ChunkBytes, recordOf, valid, formatValid, factValid, cuesValid, playsValid, chunkChecks, verdictOf, recordChecks, recordVerdict, Writable}
+use Rattle.rules.specs.Written.{writtenBytes, recordKept, RecordFits, FaultSaid}
 use Rattle.rules.proofs.Taken.{record-taken}
-
--- ---- five demands and five others give the same verdict, where each pair is the same as far as those before are met
-module _ {a a′ b b′ c c′ d d′ e e′ : Bool} where
-  pub same-order : a ≡ a′ → (a′ ≡ true → b ≡ b′) → (a′ ≡ true → b′ ≡ true → c ≡ c′) → (a′ ≡ true → b′ ≡ true → c′ ≡ true → d ≡ d′)
-      → (a′ ≡ true → b′ ≡ true → c′ ≡ true → d′ ≡ true → e ≡ e′) → inOrder a b c d e ≡ inOrder a′ b′ c′ d′ e′
-  unfolding inOrder
-  same-order p q r s t = by a′ b′ c′ d′ p q r s t
-    where
-      by : (x y z w : Bool) → a ≡ x → (x ≡ true → b ≡ y) → (x ≡ true → y ≡ true → c ≡ z) → (x ≡ true → y ≡ true → z ≡ true → d ≡ w)
-          → (x ≡ true → y ≡ true → z ≡ true → w ≡ true → e ≡ e′) → inOrder a b c d e ≡ inOrder x y z w e′
-      by false y z w p q r s t = simp p
-      by true false z w p q r s t = let q′ = q refl in simp (p, q′)
-      by true true false w p q r s t = let q′ = q refl in let r′ = r refl refl in simp (p, q′, r′)
-      by true true true false p q r s t = let q′ = q refl in let r′ = r refl refl in let s′ = s refl refl refl in simp (p, q′, r′, s′)
-      by true true true true p q r s t =
-          let q′ = q refl in let r′ = r refl refl in let s′ = s refl refl refl in let t′ = t refl refl refl refl in simp (p, q′, r′, s′, t′)
 
 -- ---- form and rule together
 fine-yes : {form rule : Bool} → form ≡ true → valid form rule ≡ rule
@@ -84,7 +70,7 @@ module _ (m : Record) (n : BytePlace) (h : RecordFits m) (k : FaultSaid m n) whe
   f = m .format
 
   format-wrong : formatRule f ≡ false → recordVerdict m n ≡ Refused FormatWrong
-  unfolding recordVerdict inOrder
+  unfolding recordChecks decided
   format-wrong e = simp e
 
   pub format-same : formatValid (formatBytes f) (formatOf (formatBytes f)) ≡ formatRule f
@@ -99,7 +85,7 @@ module _ (m : Record) (n : BytePlace) (h : RecordFits m) (k : FaultSaid m n) whe
 
   -- ---- the frames: of ADPCM the fact says them, of PCM the sound does
   fact-wrong : formatRule f ≡ true → wholeBlocks f n ≡ true → framesRule f n (m .frames) ≡ false → recordVerdict m n ≡ Refused FactWrong
-  unfolding recordVerdict inOrder
+  unfolding recordChecks decided
   fact-wrong a b c = simp (a, b, c)
 
   module _ {fact : List ℕ} (a : formatRule f ≡ true) (b : wholeBlocks f n ≡ true) (e : fact ≡ cond (needsFact f) (factBytes (m .frames)) zeros) where
@@ -183,28 +169,38 @@ no-fault {m} {n} k =
 -- ---- all chunks
 module _ (m : Record) (n : BytePlace) (h : RecordFits m) {fact : List ℕ}
     (e : formatRule (m .format) ≡ true → fact ≡ cond (needsFact (m .format)) (factBytes (m .frames)) zeros) where
-  abbrev fmt : List ℕ
-  fmt = formatBytes (m .format)
+  abbrev b : ChunkBytes
+  b = writtenBytes m n fact
 
-  abbrev cue : List ℕ
-  cue = cuesBytes (m .cues)
-
-  abbrev plst : List ℕ
-  plst = playsBytes (m .playlist)
-
-  pub verdict-back : FaultSaid m n → verdictOf fmt n fact cue plst (recordOf fmt n fact cue plst) ≡ recordVerdict m n
-  unfolding verdictOf recordVerdict recordOf
+  pub verdict-back : FaultSaid m n → verdictOf b (recordOf b) ≡ recordVerdict m n
+  unfolding chunkChecks recordChecks recordOf SameSoFar
   verdict-back k =
-      same-order (format-same m n h k)
-      (λ a. ap (λ (f : Format). wholeBlocks f n) (format-back (m .format) a))
-      (λ a b. ap (λ (f : Format). factValid fact f n (framesOf f n fact)) (format-back (m .format) a) ∙ frames-same m n h k a b (e a))
-      (λ a b c. ap (λ (x : Frames). cuesValid cue (cuesOf cue) x) (said a b c) ∙ cues-same (m .cues) (h .cues) (m .frames))
-      (λ a b c d. ap (λ (x : Frames). playsValid plst (playsOf plst) (cuesOf cue) x) (said a b c) ∙ plays-same (m .cues) (h .cues) (m .frames) (m .playlist) (h .plays))
-    where
-      said : formatRule (m .format) ≡ true → wholeBlocks (m .format) n ≡ true → framesRule (m .format) n (m .frames) ≡ true → framesOf (formatOf fmt) n fact ≡ m .frames
-      said a b c = ap (λ (f : Format). framesOf f n fact) (format-back (m .format) a) ∙ counted m n h k a b (e a) c
+      same-verdict (chunkChecks b (recordOf b)) (recordChecks m n) (
+        refl,
+        format-same m n h k,
+        λ f. (
+          refl,
+          ap (λ (g : Format). wholeBlocks g n) (format-back (m .format) f),
+          λ w. (
+            refl,
+            ap (λ (g : Format). factValid fact g n (framesOf g n fact)) (format-back (m .format) f) ∙ frames-same m n h k f w (e f),
+            λ c.
+                let said : recordOf b .frames ≡ m .frames =
+                ap (λ (g : Format). framesOf g n fact) (format-back (m .format) f) ∙ counted m n h k f w (e f) c in (
+                  refl,
+                  ap (cuesValid (b .cues) (cuesOf (b .cues))) said ∙ cues-same (m .cues) (h .cues) (m .frames),
+                  λ _. (
+                    refl,
+                    ap (playsValid (b .plays) (playsOf (b .plays)) (cuesOf (b .cues))) said ∙ plays-same (m .cues) (h .cues) (m .frames) (m .playlist) (h .plays),
+                    λ _.
+                        tt,
+                  ),
+                ),
+          ),
+        ),
+      )
 
-  pub record-back : Writable m n → recordOf fmt n fact cue plst ≡ recordKept m
+  pub record-back : Writable m n → recordOf b ≡ recordKept m
   unfolding recordOf recordKept
   record-back k =
       let f = format-back (m .format) (k .format) in

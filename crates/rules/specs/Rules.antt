@@ -2,14 +2,14 @@
 use Prim.Native.Nat.{ℕ}
 use mathlib.Core.Path.{_≡_}
 use mathlib.Core.Bool.{Bool, true, _&&_}
-use mathlib.Core.List.{List}
+use mathlib.Core.List.{List, [], _∷_}
 use Rattle.units.specs.declared.BytePlace.{BytePlace}
 use Rattle.units.specs.declared.Frames.{Frames}
 use Rattle.units.specs.declared.Refusal.{Refusal}
 use Rattle.units.specs.declared.Refusal.the-variants.{FormatWrong, NotWholeFrames, FactWrong, CuesWrong, PlaylistWrong}
 use Rattle.units.specs.declared.Verdict.{Verdict}
 use Rattle.units.specs.declared.Verdict.the-variants.{Accepted, Refused}
-use Rattle.units.specs.Refusals.{demand}
+use Rattle.units.specs.Checks.{Check, check, decided}
 use Rattle.formats.specs.declared.Format.{Format}
 use Rattle.formats.specs.Format.{formatOf, formatForm, formatRule}
 use Rattle.formats.specs.Frames.{wholeBlocks, framesOf, factForm, framesRule}
@@ -20,10 +20,23 @@ use Rattle.tables.specs.Plays.{noPlays, playsOf, playsForm, playsRule}
 use Rattle.rules.specs.declared.Record.{Record}
 use Rattle.rules.specs.declared.Reading.{Reading}
 
--- what the chunks say: the bytes of `fmt `, the length of the sound data, the bytes of `fact`, `cue ` and `plst`
-unfoldable pub recordOf : List ℕ → BytePlace → List ℕ → List ℕ → List ℕ → Record
-recordOf fmt n fact cue plst =
-    record { format = formatOf fmt; frames = framesOf (formatOf fmt) n fact; cues = cuesOf cue; playlist = playsOf plst }
+-- what is judged of a file's chunks: the bytes of each, and of the sound data how many there are
+pub record ChunkBytes : Type 0 where
+  pub format : List ℕ
+  pub sound : BytePlace
+  pub fact : List ℕ
+  pub cues : List ℕ
+  pub plays : List ℕ
+
+-- what the chunks say
+unfoldable pub recordOf : ChunkBytes → Record
+recordOf b =
+    record {
+      format = formatOf (b .format);
+      frames = framesOf (formatOf (b .format)) (b .sound) (b .fact);
+      cues = cuesOf (b .cues);
+      playlist = playsOf (b .plays);
+    }
 
 -- a chunk has its form, and what it says keeps its rule
 unfoldable pub valid : Bool → Bool → Bool
@@ -41,35 +54,31 @@ cuesValid cue c frames = valid (cuesForm cue) (cuesRule c frames)
 abbrev pub playsValid : List ℕ → Playlist → Cues → Frames → Bool
 playsValid plst p c frames = valid (playsForm plst) (playsRule p c frames)
 
--- 9 to 13 by number
-unfoldable pub inOrder : Bool → Bool → Bool → Bool → Bool → Verdict
-inOrder format whole fact cues plays =
-    demand format FormatWrong
-    (demand whole NotWholeFrames
-    (demand fact FactWrong
-    (demand cues CuesWrong
-    (demand plays PlaylistWrong
-    Accepted))))
+-- 9 to 13 by number, of the chunks of a file, whose record they make
+unfoldable pub chunkChecks : ChunkBytes → Record → List Check
+chunkChecks b m =
+    check (formatValid (b .format) (m .format)) FormatWrong
+    ∷ check (wholeBlocks (m .format) (b .sound)) NotWholeFrames
+    ∷ check (factValid (b .fact) (m .format) (b .sound) (m .frames)) FactWrong
+    ∷ check (cuesValid (b .cues) (m .cues) (m .frames)) CuesWrong
+    ∷ check (playsValid (b .plays) (m .playlist) (m .cues) (m .frames)) PlaylistWrong
+    ∷ []
 
--- of the chunks of a file, whose record they make
-unfoldable pub verdictOf : List ℕ → BytePlace → List ℕ → List ℕ → List ℕ → Record → Verdict
-verdictOf fmt n fact cue plst m =
-    inOrder
-    (formatValid fmt (m .format))
-    (wholeBlocks (m .format) n)
-    (factValid fact (m .format) n (m .frames))
-    (cuesValid cue (m .cues) (m .frames))
-    (playsValid plst (m .playlist) (m .cues) (m .frames))
+abbrev pub verdictOf : ChunkBytes → Record → Verdict
+verdictOf b m = decided (chunkChecks b m)
 
 -- of a record to be written with n bytes of sound: the rules alone, as the writer gives each chunk its form
-unfoldable pub recordVerdict : Record → BytePlace → Verdict
-recordVerdict m n =
-    inOrder
-    (formatRule (m .format))
-    (wholeBlocks (m .format) n)
-    (framesRule (m .format) n (m .frames))
-    (cuesRule (m .cues) (m .frames))
-    (playsRule (m .playlist) (m .cues) (m .frames))
+unfoldable pub recordChecks : Record → BytePlace → List Check
+recordChecks m n =
+    check (formatRule (m .format)) FormatWrong
+    ∷ check (wholeBlocks (m .format) n) NotWholeFrames
+    ∷ check (framesRule (m .format) n (m .frames)) FactWrong
+    ∷ check (cuesRule (m .cues) (m .frames)) CuesWrong
+    ∷ check (playsRule (m .playlist) (m .cues) (m .frames)) PlaylistWrong
+    ∷ []
+
+abbrev pub recordVerdict : Record → BytePlace → Verdict
+recordVerdict m n = decided (recordChecks m n)
 
 -- a record that keeps all the rules
 pub record Writable (m : Record) (n : BytePlace) : Type 0 where
@@ -79,15 +88,13 @@ pub record Writable (m : Record) (n : BytePlace) : Type 0 where
   pub cues : cuesRule (m .cues) (m .frames) ≡ true
   pub plays : playsRule (m .playlist) (m .cues) (m .frames) ≡ true
 
+-- a record without cues and playlist
+abbrev pub bare : Format → Frames → Record
+bare f frames = record { format = f; frames = frames; cues = noCues; playlist = noPlays }
+
 -- the record that is all zero
 abbrev pub blank : Record
-blank =
-    record {
-      format = record { tag = 0; channels = 0; rate = 0; bits = 0; align = 0; samples = 0 };
-      frames = record { 0 = 0 };
-      cues = noCues;
-      playlist = noPlays;
-    }
+blank = bare (record { tag = 0; channels = 0; rate = 0; bits = 0; align = 0; samples = 0 }) (record { 0 = 0 })
 
 -- a refused file: its refusal, and no record
 abbrev pub turnedAway : Refusal → Reading
@@ -98,6 +105,5 @@ abbrev pub readingBy : Verdict → Record → Reading
 readingBy Accepted m = record { verdict = Accepted; made = m }
 readingBy (Refused r) m = turnedAway r
 
-unfoldable pub judged : List ℕ → BytePlace → List ℕ → List ℕ → List ℕ → Reading
-judged fmt n fact cue plst =
-    readingBy (verdictOf fmt n fact cue plst (recordOf fmt n fact cue plst)) (recordOf fmt n fact cue plst)
+unfoldable pub judged : ChunkBytes → Reading
+judged b = readingBy (verdictOf b (recordOf b)) (recordOf b)

@@ -1,16 +1,22 @@
 -- What is read back of a record that is written, and which faults its bytes carry. Assumes nothing.
-use Prim.Native.Nat.{_<_}
+use Prim.Native.Nat.{ℕ, _<_}
 use mathlib.Core.Path.{_≡_}
 use mathlib.Core.Bool.{true, false}
+use mathlib.Core.List.{List}
 use Rattle.units.specs.declared.BytePlace.{BytePlace}
 use Rattle.units.specs.declared.Refusal.the-variants.{FormatWrong, FactWrong}
 use Rattle.units.specs.declared.Verdict.the-variants.{Refused}
 use Rattle.formats.specs.Format.{formatRule}
 use Rattle.formats.specs.Frames.{needsFact}
-use Rattle.formats.specs.Bytes.{saidFormat, FormatFits}
-use Rattle.tables.specs.Bytes.{cuesKept, playsKept, CuesFit, PlaysFit}
+use Rattle.formats.specs.Bytes.{formatBytes, saidFormat, FormatFits}
+use Rattle.tables.specs.Bytes.{cuesBytes, playsBytes, cuesKept, playsKept, CuesFit, PlaysFit}
 use Rattle.rules.specs.declared.Record.{Record}
-use Rattle.rules.specs.Rules.{recordVerdict}
+use Rattle.rules.specs.Rules.{ChunkBytes, recordVerdict}
+
+-- the chunks that are written of a record with n bytes of sound, whatever the `fact`
+abbrev pub writtenBytes : Record → BytePlace → List ℕ → ChunkBytes
+writtenBytes m n fact =
+    record { format = formatBytes (m .format); sound = n; fact = fact; cues = cuesBytes (m .cues); plays = playsBytes (m .playlist) }
 
 -- the same record, its room past the two counts zero
 unfoldable pub recordKept : Record → Record

@@ -11,7 +11,9 @@ use units::Refusal;
 use units::Verdict;
 ghost use mathlib.Core.Path.{_≡_};
 ghost use Prim.Native.Nat.{_<_};
-ghost use Rattle.rules.specs.Rules.{formatValid, factValid, cuesValid, playsValid, inOrder, verdictOf, recordVerdict, blank, turnedAway, recordOf, judged};
+ghost use Rattle.formats.specs.Format.{formatOf};
+ghost use Rattle.rules.specs.Rules.{formatValid, factValid, cuesValid, playsValid, verdictOf, recordVerdict};
+ghost use Rattle.rules.specs.Rules.{bare, blank, turnedAway, readingBy, judged};
 
 // What a WAVE file says besides its sound.
 pub struct Record {
@@ -27,6 +29,18 @@ pub struct Reading {
     pub made: Record,
 }
 
+// A record without cues and playlist.
+pub fn bare(format: Format, frames: Frames) -> Record
+    ensures answer { λ r. ⌜ r ≡ bare format frames ⌝ }
+{
+    Record {
+        format: format,
+        frames: frames,
+        cues: tables::no_cues(),
+        playlist: tables::no_plays(),
+    }
+}
+
 // The record that is all zero.
 fn blank_record() -> Record
     ensures answer { λ r. ⌜ r ≡ blank ⌝ }
@@ -39,12 +53,7 @@ fn blank_record() -> Record
         align: 0,
         samples: 0,
     };
-    Record {
-        format: format,
-        frames: Frames(0),
-        cues: tables::no_cues(),
-        playlist: tables::no_plays(),
-    }
+    bare(format, Frames(0))
 }
 
 // The answer to a file that is refused.
@@ -54,6 +63,19 @@ pub fn turned_away(refusal: Refusal) -> Reading
     Reading {
         verdict: Verdict::Refused(refusal),
         made: blank_record(),
+    }
+}
+
+// A record that is taken, or the refusal.
+fn reading_by(verdict: Verdict, made: Record) -> Reading
+    ensures answer { λ r. ⌜ r ≡ readingBy verdict made ⌝ }
+{
+    match verdict {
+        Verdict::Accepted => Reading {
+            verdict: verdict,
+            made: made,
+        },
+        Verdict::Refused(refusal) => turned_away(refusal),
     }
 }
 
@@ -101,28 +123,6 @@ fn plays_valid(bytes: &[u8], playlist: Playlist, cues: Cues, frames: Frames) -> 
     tables::plays_rule(playlist, cues, frames)
 }
 
-// The verdict by five demands, each met or not: the first that is not met decides.
-fn in_order(format: bool, whole: bool, fact: bool, cues: bool, plays: bool) -> Verdict
-    ensures answer { λ r. ⌜ r ≡ inOrder format whole fact cues plays ⌝ }
-{
-    if !format {
-        return Verdict::Refused(Refusal::FormatWrong);
-    }
-    if !whole {
-        return Verdict::Refused(Refusal::NotWholeFrames);
-    }
-    if !fact {
-        return Verdict::Refused(Refusal::FactWrong);
-    }
-    if !cues {
-        return Verdict::Refused(Refusal::CuesWrong);
-    }
-    if !plays {
-        return Verdict::Refused(Refusal::PlaylistWrong);
-    }
-    Verdict::Accepted
-}
-
 // The verdict on the chunks of a file, whose record they make.
 fn verdict_of(
     fmt: &[u8],
@@ -132,18 +132,35 @@ fn verdict_of(
     plst: &[u8],
     made: Record,
 ) -> Verdict
-    ensures answer { λ r. ⌜ r ≡ verdictOf (now (fmt .entry)) sound (now (fact .entry)) (now (cue .entry)) (now (plst .entry)) made ⌝ }
+    ensures answer { λ r. ⌜ r ≡ verdictOf
+        (record {
+          format = now (fmt .entry);
+          sound = sound;
+          fact = now (fact .entry);
+          cues = now (cue .entry);
+          plays = now (plst .entry);
+        }) made ⌝ }
 {
     let format = made.format;
     let frames = made.frames;
     let cues = made.cues;
     let playlist = made.playlist;
-    let format_kept = format_valid(fmt, format);
-    let whole = formats::whole_blocks(format, sound);
-    let fact_kept = fact_valid(fact, format, sound, frames);
-    let cues_kept = cues_valid(cue, cues, frames);
-    let plays_kept = plays_valid(plst, playlist, cues, frames);
-    in_order(format_kept, whole, fact_kept, cues_kept, plays_kept)
+    if !format_valid(fmt, format) {
+        return Verdict::Refused(Refusal::FormatWrong);
+    }
+    if !formats::whole_blocks(format, sound) {
+        return Verdict::Refused(Refusal::NotWholeFrames);
+    }
+    if !fact_valid(fact, format, sound, frames) {
+        return Verdict::Refused(Refusal::FactWrong);
+    }
+    if !cues_valid(cue, cues, frames) {
+        return Verdict::Refused(Refusal::CuesWrong);
+    }
+    if !plays_valid(plst, playlist, cues, frames) {
+        return Verdict::Refused(Refusal::PlaylistWrong);
+    }
+    Verdict::Accepted
 }
 
 // The verdict on a record that is to be written with some bytes of sound.
@@ -154,43 +171,53 @@ pub fn record_verdict(made: Record, sound: BytePlace) -> Verdict
     let frames = made.frames;
     let cues = made.cues;
     let playlist = made.playlist;
-    let format_kept = formats::format_rule(format);
-    let whole = formats::whole_blocks(format, sound);
-    let frames_kept = formats::frames_rule(format, sound, frames);
-    let cues_kept = tables::cues_rule(cues, frames);
-    let plays_kept = tables::plays_rule(playlist, cues, frames);
-    in_order(format_kept, whole, frames_kept, cues_kept, plays_kept)
+    if !formats::format_rule(format) {
+        return Verdict::Refused(Refusal::FormatWrong);
+    }
+    if !formats::whole_blocks(format, sound) {
+        return Verdict::Refused(Refusal::NotWholeFrames);
+    }
+    if !formats::frames_rule(format, sound, frames) {
+        return Verdict::Refused(Refusal::FactWrong);
+    }
+    if !tables::cues_rule(cues, frames) {
+        return Verdict::Refused(Refusal::CuesWrong);
+    }
+    if !tables::plays_rule(playlist, cues, frames) {
+        return Verdict::Refused(Refusal::PlaylistWrong);
+    }
+    Verdict::Accepted
 }
 
-// What the chunks of a file say.
-fn record_of(fmt: &[u8], sound: BytePlace, fact: &[u8], cue: &[u8], plst: &[u8]) -> Record
+// The verdict on the chunks of a file, and what they say where it is taken. The format is what the `fmt ` says.
+pub fn judge(
+    fmt: &[u8],
+    format: Format,
+    sound: BytePlace,
+    fact: &[u8],
+    cue: &[u8],
+    plst: &[u8],
+) -> Reading
+    requires { ⌜ format ≡ formatOf (now fmt) ⌝ }
     requires { ⌜ sound .0 < 4294967296 ⌝ }
-    ensures answer { λ r. ⌜ r ≡ recordOf (now (fmt .entry)) sound (now (fact .entry)) (now (cue .entry)) (now (plst .entry)) ⌝ }
+    ensures answer { λ r. ⌜ r ≡ judged
+        (record {
+          format = now (fmt .entry);
+          sound = sound;
+          fact = now (fact .entry);
+          cues = now (cue .entry);
+          plays = now (plst .entry);
+        }) ⌝ }
 {
-    let format = formats::format_of(fmt);
     let frames = formats::frames_of(format, sound, fact);
     let cues = tables::cues_of(cue);
     let playlist = tables::plays_of(plst);
-    Record {
+    let made = Record {
         format: format,
         frames: frames,
         cues: cues,
         playlist: playlist,
-    }
-}
-
-// The verdict on the chunks of a file, and what they say where it is taken.
-pub fn judge(fmt: &[u8], sound: BytePlace, fact: &[u8], cue: &[u8], plst: &[u8]) -> Reading
-    requires { ⌜ sound .0 < 4294967296 ⌝ }
-    ensures answer { λ r. ⌜ r ≡ judged (now (fmt .entry)) sound (now (fact .entry)) (now (cue .entry)) (now (plst .entry)) ⌝ }
-{
-    let made = record_of(fmt, sound, fact, cue, plst);
+    };
     let verdict = verdict_of(fmt, sound, fact, cue, plst, made);
-    match verdict {
-        Verdict::Accepted => Reading {
-            verdict: verdict,
-            made: made,
-        },
-        Verdict::Refused(refusal) => turned_away(refusal),
-    }
+    reading_by(verdict, made)
 }

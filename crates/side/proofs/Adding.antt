@@ -23,7 +23,7 @@ use Rattle.tables.specs.Plays.{noPlays}
 use Rattle.tables.proofs.BehindRules.{cues-few, plays-few}
 use Rattle.rules.specs.declared.Record.{Record}
 use Rattle.rules.specs.declared.Reading.{Reading}
-use Rattle.rules.specs.Rules.{inOrder, recordVerdict, blank}
+use Rattle.rules.specs.Rules.{blank}
 use Rattle.reader.specs.Content.{reading, soundIn}
 use Rattle.reader.specs.Demands.{Refusing}
 use Rattle.reader.proofs.Demands.{sound-placed, refusing}
@@ -31,7 +31,8 @@ use Rattle.reader.proofs.Kept.{content-taken, content-rules}
 use Rattle.writer.specs.declared.Written.{Written}
 use Rattle.writer.specs.declared.Written.the-variants as written
 use Rattle.writer.specs.File as file
-use Rattle.writer.specs.File.{fileOf, beforeRoom, settled, writing}
+use Rattle.writer.specs.File.{fileOf, writing}
+use Rattle.writer.proofs.Settling.{format-refused}
 use Rattle.side.specs.declared.Added.{Added}
 use Rattle.side.specs.declared.Added.the-variants.{Bytes, Refused}
 use Rattle.side.specs.Side.{isSide}
@@ -130,12 +131,12 @@ empty-record channels rate e f = simp (e, f)
 
 module _ (channels rate room : ℕ) where
   pub empty-channels : 2 < channels → written.Refused FormatWrong ≡ writing (emptySide channels rate) [] room
-  unfolding writing settled beforeRoom recordVerdict inOrder emptySide
+  unfolding emptySide
   empty-channels h = by (formatRule (emptySide channels rate .format)) refl
     where
       by : (b : Bool) → formatRule (emptySide channels rate .format) ≡ b → written.Refused FormatWrong ≡ writing (emptySide channels rate) [] room
       by true e = absurd (omega (arith, taken-two (emptySide channels rate .format) e))
-      by false e = simp e
+      by false e = sym (format-refused (emptySide channels rate) [] room e)
 
   pub empty-written : {m : Record} {r : Written} → m ≡ emptySide channels rate → r ≡ writing m [] room → r ≡ writing (emptySide channels rate) [] room
   empty-written e f = f ∙ ap (λ (m : Record). writing m [] room) e

@@ -1,7 +1,7 @@
 -- What the file of a record holds: its chunks stand as they were laid, each says what was put into it, and together they
 -- get the record's own verdict. Assumes nothing.
 use mathlib.Core.Path.{_≡_, refl, sym, ap, _∙_}
-use mathlib.Core.Bool.{Bool, true, false, cond, _&&_}
+use mathlib.Core.Bool.{Bool, true, false, cond}
 use mathlib.Core.List.{List, []}
 use Prim.Native.Nat.{ℕ, _≤_}
 use native.Mathlib.Omega.{arith}
@@ -10,9 +10,9 @@ use lib.ListN.{length}
 use borrow.Author.Tests.{leb-false}
 use Rattle.units.specs.Refusals.{fileLimit}
 use Rattle.units.specs.declared.BytePlace.{BytePlace}
-use Rattle.units.specs.declared.Refusal.the-variants.{FormatOrDataMissing}
 use Rattle.units.specs.declared.Verdict.{Verdict}
 use Rattle.units.specs.declared.Verdict.the-variants.{Accepted, Refused}
+use Rattle.units.specs.Checks.{decided}
 use Rattle.riff.specs.declared.Directory.{Directory}
 use Rattle.riff.specs.Demands.{Reads}
 use Rattle.riff.proofs.Laid.{laid-reads}
@@ -24,11 +24,11 @@ use Rattle.formats.proofs.Back.{format-back}
 use Rattle.tables.specs.Bytes.{cuesBytes, playsBytes}
 use Rattle.tables.proofs.Lengths as tables
 use Rattle.rules.specs.declared.Record.{Record}
-use Rattle.rules.specs.Rules.{recordOf, verdictOf, recordVerdict}
-use Rattle.rules.specs.Written.{recordKept, RecordFits, FaultSaid}
+use Rattle.rules.specs.Rules.{ChunkBytes, recordOf, verdictOf, recordVerdict}
+use Rattle.rules.specs.Written.{writtenBytes, recordKept, RecordFits, FaultSaid}
 use Rattle.rules.proofs.Taken.{record-keeps}
 use Rattle.rules.proofs.Back.{verdict-back, record-back}
-use Rattle.reader.specs.Content.{refused, contentBy, zeros, formatPart, soundPart, factPart, cuePart, playlistPart, recordAt, verdictAt, contentAt, contentIn, contentOf}
+use Rattle.reader.specs.Content.{contentBy, zeros, formatPart, soundPart, factPart, cuePart, playlistPart, chunksAt, checksAt, verdictAt, contentIn, contentOf}
 use Rattle.writer.specs.File.{sizeOf, partsOf, fileOf}
 
 -- a table is left out exactly where its bytes are those that are read in its place
@@ -84,22 +84,30 @@ module _ (m : Record) (w : List ℕ) (h : RecordFits m) (k : FaultSaid m (sizeOf
       ∙ fact-place (needsFact (m .format)) (factBytes (m .frames))
 
   -- ---- what they say, and the verdict on them
-  record-at : recordAt s d ≡ recordOf (formatBytes (m .format)) n (factPart s d) (cuesBytes (m .cues)) (playsBytes (m .playlist))
-  record-at = λ i. recordOf (format-part i) (record { 0 = length (sound-part i) }) (factPart s d) (cue-part i) (playlist-part i)
+  bytes-at : chunksAt s d ≡ writtenBytes m n (factPart s d)
+  bytes-at =
+      λ i. record {
+        format = format-part i;
+        sound = record { 0 = length (sound-part i) };
+        fact = factPart s d;
+        cues = cue-part i;
+        plays = playlist-part i;
+      }
 
   verdict-at : verdictAt s d ≡ recordVerdict m n
+  unfolding checksAt decided
   verdict-at =
-      (λ i. verdictOf (format-part i) (record { 0 = length (sound-part i) }) (factPart s d) (cue-part i) (playlist-part i) (record-at i))
-      ∙ verdict-back m n h fact-part k
+      simp (laid .formatThere, laid .soundThere)
+      (ap (λ (b : ChunkBytes). verdictOf b (recordOf b)) bytes-at ∙ verdict-back m n h fact-part k)
 
   pub content-back : contentOf s ≡ contentBy (recordVerdict m n) (recordKept m) w
-  unfolding contentOf contentAt
+  unfolding contentOf
   content-back =
       ap (contentIn s) (laid .walked)
-      ∙ (λ i. cond (laid .formatThere i && laid .soundThere i) (contentBy (verdictAt s d) (recordAt s d) (soundPart s d)) (refused FormatOrDataMissing))
-      ∙ (λ i. contentBy (verdict-at i) (record-at i) (sound-part i))
+      ∙ (λ i. contentBy (verdict-at i) (recordOf (bytes-at i)) (sound-part i))
       ∙ by (recordVerdict m n) refl
     where
-      by : (v : Verdict) → recordVerdict m n ≡ v → contentBy v (recordOf (formatBytes (m .format)) n (factPart s d) (cuesBytes (m .cues)) (playsBytes (m .playlist))) w ≡ contentBy v (recordKept m) w
+      by : (v : Verdict) → recordVerdict m n ≡ v
+          → contentBy v (recordOf (writtenBytes m n (factPart s d))) w ≡ contentBy v (recordKept m) w
       by Accepted e = ap (λ (x : Record). contentBy Accepted x w) (record-back m n h fact-part (record-keeps m n e))
       by (Refused r) e = refl

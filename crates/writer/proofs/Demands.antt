@@ -1,6 +1,6 @@
 -- Demand 2 of written files: each by what the file of a record holds, and by what the verdict on it says. Assumes nothing.
 use mathlib.Core.Path.{_≡_, refl, sym, ap, _∙_, subst}
-use mathlib.Core.Bool.{Bool, true, false}
+use mathlib.Core.Bool.{Bool, true, false, cond}
 use mathlib.Core.List.{List}
 use Prim.Native.Nat.{ℕ, _≤_, _<_}
 use native.Mathlib.Omega.{arith}
@@ -12,36 +12,31 @@ use Rattle.units.specs.declared.Refusal.{Refusal}
 use Rattle.units.specs.declared.Refusal.the-variants.{LengthOutOfRange, FormatWrong, FactWrong, OutputTooSmall}
 use Rattle.units.specs.declared.Verdict.{Verdict}
 use Rattle.units.specs.declared.Verdict.the-variants.{Accepted, Refused}
-use Rattle.units.specs.Refusals.{fileLimit, verdictNumber, demand}
-use Rattle.units.proofs.Laws.{demand-row}
+use Rattle.units.specs.Refusals.{fileLimit, verdictNumber}
+use Rattle.units.specs.Checks.{decided, andThen, numberBy}
+use Rattle.units.proofs.Checks.{number-row}
 use Rattle.riff.specs.declared.Walked.{Walked}
 use Rattle.riff.proofs.Walking.{whole-limit, too-long}
 use Rattle.rules.specs.declared.Record.{Record}
-use Rattle.rules.specs.Rules.{inOrder, recordVerdict, Writable}
+use Rattle.rules.specs.Rules.{recordChecks, recordVerdict, Writable}
 use Rattle.rules.specs.Written.{recordKept, RecordFits, FaultSaid}
 use Rattle.rules.proofs.Taken.{record-taken}
 use Rattle.rules.proofs.Back.{no-fault}
 use Rattle.reader.specs.Content.{Content, holds, contentBy, contentIn, contentOf, readingOf, soundOf, reading, soundIn}
+use Rattle.reader.proofs.Demands.{taken-verdict}
 use Rattle.reader.proofs.Kept.{held, content-taken, content-rules}
 use Rattle.reader.proofs.Again.{content-fits, content-kept-read}
 use Rattle.writer.specs.declared.Written.the-variants.{Bytes}
 use Rattle.writer.specs.declared.Written.the-variants as written
-use Rattle.writer.specs.File.{sizeOf, fileOf, andThen, beforeRoom, settled, writtenBy, writing, writtenNumber}
+use Rattle.writer.specs.File.{sizeOf, fileOf, writeChecks, settled, writtenBy, writing, writtenNumber}
 use Rattle.writer.specs.Demands.{Back, Again, fileAgain, Same, SameNumber, WriteNumbered}
-use Rattle.writer.proofs.Settling.{settled-says}
+use Rattle.writer.proofs.Settling.{settled-then, told-long, settled-says}
+pub use Rattle.writer.proofs.Settling.{bytes-say}
 use Rattle.writer.proofs.Back.{content-back}
 use Rattle.writer.proofs.Room.{not-longer}
 
 -- ---- what an answer says of the verdict
 module _ (m : Record) (w : List ℕ) (room : ℕ) where
-  pub bytes-say : (n : BytePlace) → writing m w room ≡ Bytes n → settled m w room ≡ Accepted
-  unfolding writing
-  bytes-say n = by (settled m w room)
-    where
-      by : (v : Verdict) → writtenBy v (sizeOf (fileOf m w)) ≡ Bytes n → v ≡ Accepted
-      by Accepted e = refl
-      by (Refused r) e = let z : _≡_ {A = ℕ} 0 1 = cc in absurd (omega arith)
-
   pub refused-says : (r : Refusal) → writing m w room ≡ written.Refused r → settled m w room ≡ Refused r
   unfolding writing
   refused-says r = by (settled m w room)
@@ -57,17 +52,12 @@ content-written m w room n h e =
     let s = settled-says m w room (bytes-say m w room n e) in
     content-back m w h (no-fault (s .rules)) (s .limit) ∙ ap (λ (v : Verdict). contentBy v (recordKept m) w) (record-taken (s .rules))
 
--- the length that an answer tells
-told-long : (v : Verdict) (n k : BytePlace) → writtenBy v k ≡ Bytes n → n ≡ k
-told-long Accepted n k e = cc
-told-long (Refused r) n k e = let z : _≡_ {A = ℕ} 0 1 = cc in absurd (omega arith)
-
 pub back : Back
-unfolding Back reading soundIn writing
+unfolding Back reading soundIn
 back m w room n h e =
     let c = content-written m w room n h e in
     record {
-      long = told-long (settled m w room) n (sizeOf (fileOf m w)) e;
+      long = told-long m w room n e;
       verdict = ap (λ (x : Content). readingOf x .verdict) c;
       made = ap (λ (x : Content). readingOf x .made) c;
       sound = ap soundOf c;
@@ -76,12 +66,12 @@ back m w room n h e =
 -- ---- what is read is written again
 pub accepted : (m : Record) (w : List ℕ) (room : ℕ) → Writable m (sizeOf w) → length (fileOf m w) ≤ fileLimit → length (fileOf m w) ≤ room
     → writing m w room ≡ Bytes (sizeOf (fileOf m w))
-unfolding writing settled beforeRoom
+unfolding writing decided
 accepted m w room k l r =
     let a = record-taken k in
     let b = le-leb (length (fileOf m w)) fileLimit l in
     let c = le-leb (length (fileOf m w)) room r in
-    simp (a, b, c)
+    simp (settled-then, a, b, c)
 
 pub again : Again
 unfolding Again
@@ -116,11 +106,15 @@ same q r e = cc
 -- within the limit, a refusal for something other than room is the rules'
 ruled : (m : Record) (w : List ℕ) (room : ℕ) (r : Refusal) → length (fileOf m w) ≤ fileLimit → (r ≡ OutputTooSmall → ⊥)
     → settled m w room ≡ Refused r → recordVerdict m (sizeOf w) ≡ Refused r
-unfolding settled beforeRoom
-ruled m w room r l n = by (recordVerdict m (sizeOf w)) (leb (length (fileOf m w)) fileLimit) (leb (length (fileOf m w)) room) (le-leb (length (fileOf m w)) fileLimit l)
+unfolding decided
+ruled m w room r l n e =
+    by (recordVerdict m (sizeOf w)) (leb file fileLimit) (leb file room) (le-leb file fileLimit l) (sym (settled-then m w room) ∙ e)
   where
+    file : ℕ
+    file = length (fileOf m w)
+
     by : (v : Verdict) (a b : Bool) → a ≡ true
-        → andThen (andThen v (demand a LengthOutOfRange Accepted)) (demand b OutputTooSmall Accepted) ≡ Refused r → v ≡ Refused r
+        → andThen v (cond a (cond b Accepted (Refused OutputTooSmall)) (Refused LengthOutOfRange)) ≡ Refused r → v ≡ Refused r
     by (Refused q) a b t e = e
     by Accepted true true t e = e
     by Accepted true false t e = absurd (n (sym (same OutputTooSmall r e)))
@@ -129,10 +123,6 @@ ruled m w room r l n = by (recordVerdict m (sizeOf w)) (leb (length (fileOf m w)
 reading-long : (s : List ℕ) → fileLimit < length s → reading s .verdict ≡ Refused LengthOutOfRange
 unfolding reading contentOf
 reading-long s h = ap (λ (x : Walked). readingOf (contentIn s x) .verdict) (too-long s h)
-
-taken-verdict : (v : Verdict) (m : Record) (w : List ℕ) → readingOf (contentBy v m w) .verdict ≡ v
-taken-verdict Accepted m w = refl
-taken-verdict (Refused q) m w = refl
 
 pub same-number : SameNumber
 unfolding SameNumber reading
@@ -149,15 +139,11 @@ same-number m w room r h k e = by (leb (length (fileOf m w)) fileLimit) refl
         let l = leb-false (length (fileOf m w)) fileLimit t in
         reading-long (fileOf m w) l ∙ ap Refused (sym (k .limit l))
 
--- ---- each demand is a row of the table
-and-row : (b : Bool) (r : Refusal) (u v : Verdict) → andThen (demand b r u) v ≡ demand b r (andThen u v)
-and-row true r u v = refl
-and-row false r u v = refl
-
+-- ---- each check is a row of the table
 answer-row : (v : Verdict) (n : BytePlace) → writtenNumber (writtenBy v n) ≡ verdictNumber v
 answer-row Accepted n = refl
 answer-row (Refused r) n = refl
 
 pub numbered : WriteNumbered
-unfolding WriteNumbered writing settled beforeRoom recordVerdict inOrder
-numbered m w room = answer-row (settled m w room) (sizeOf (fileOf m w)) ∙ simp (and-row, demand-row)
+unfolding WriteNumbered writing writeChecks recordChecks numberBy
+numbered m w room = answer-row (settled m w room) (sizeOf (fileOf m w)) ∙ number-row (writeChecks m w room)

@@ -10,8 +10,7 @@ use Rattle.little.specs.Writing.{Put, front}
 use Rattle.little.proofs.Filling.{put-front, next-room, both-put, first-room}
 use Rattle.units.specs.declared.BytePlace.{BytePlace}
 use Rattle.units.specs.declared.Refusal.{Refusal}
-use Rattle.units.specs.declared.Verdict.{Verdict}
-use Rattle.units.specs.declared.Verdict.the-variants.{Accepted, Refused}
+use Rattle.units.specs.declared.Verdict.the-variants.{Accepted}
 use Rattle.codes.specs.declared.Code.{Code}
 use Rattle.codes.specs.declared.Code.the-variants as code
 use Rattle.riff.specs.Laying.{Part, Piece, piece, pieceBytes, partBytes, bodyBytes, riffBytes, given, piecesOf, fileBytes}
@@ -19,12 +18,12 @@ use Rattle.riff.proofs.Laying.{length-file}
 use Rattle.formats.specs.Format.{formatRule}
 use Rattle.tables.specs.declared.Playlist.{Playlist}
 use Rattle.rules.specs.declared.Record.{Record}
-use Rattle.writer.specs.File.{sizeOf, factChunk, cuesChunk, playsChunk, partsOf, fileOf, untilTables, tablesOf, settled, writtenBy, writing, holding}
+use Rattle.writer.specs.File.{factChunk, cuesChunk, playsChunk, partsOf, fileOf, untilTables, tablesOf, settled, writing, holding}
 use Rattle.writer.specs.declared.Written.{Written}
 use Rattle.writer.specs.declared.Written.the-variants.{Bytes}
 use Rattle.writer.specs.declared.Written.the-variants as written
 use Rattle.writer.proofs.Opening.{formOf, countOf}
-use Rattle.writer.proofs.Settling.{Settled, settled-says, longer}
+use Rattle.writer.proofs.Settling.{Settled, settled-says, bytes-say, told-long, longer}
 
 body-given : (k : Code) (p : Part) (ps : List Piece) → bodyBytes (given k p ps) ≡ partBytes k p ++ bodyBytes ps
 unfolding given partBytes bodyBytes
@@ -56,79 +55,80 @@ module _ (m : Record) (w : List ℕ) where
       ap (λ (s : List ℕ). formOf (m .format) ++ s) (body-given code.Fact (factChunk (m .format) (m .frames)) c ∙ ap (λ (s : List ℕ). countOf (m .format) (m .frames) ++ s) e)
       ∙ sym (append-assoc (formOf (m .format)) (countOf (m .format) (m .frames)) (tables ++ sound))
 
-  module _ {size : ℕ} (e : size ≡ length (fileOf m w)) where
+  -- the answer told so many bytes
+  module _ {size : BytePlace} (d : List ℕ) (e : writing m w (length d) ≡ Bytes size) where
     abbrev first : List ℕ
-    first = untilTables size (m .format) (m .frames)
+    first = untilTables (size .0) (m .format) (m .frames)
+
+    says : Settled m w (length d)
+    says = settled-says m w (length d) (bytes-say m w (length d) size e)
+
+    told : size .0 ≡ length (fileOf m w)
+    told = ap (λ (n : BytePlace). n .0) (told-long m w (length d) size e)
+
+    pub file-told : Bytes size ≡ writing m w (length d)
+    file-told = sym e
+
+    pub sound-kept : length w ≤ fileLimit
+    sound-kept = omega (arith, longer m w (length d), says .limit)
+
+    pub format-kept : formatRule (m .format) ≡ true
+    format-kept = says .rules .format
+
+    pub size-fits : size .0 < 4294967296
+    size-fits = omega (arith, told, says .limit)
+
+    pub size-least : 12 ≤ size .0
+    unfolding fileOf
+    size-least = omega (arith, told, length-file (piecesOf (partsOf m w)))
 
     file-runs : fileOf m w ≡ first ++ (tables ++ sound)
     unfolding fileOf untilTables fileBytes
     file-runs =
         let b : List ℕ = bodyBytes (piecesOf (partsOf m w)) in
         let l : length (fileOf m w) ≡ 12 + length b = length-file (piecesOf (partsOf m w)) in
-        let k : 4 + length b ≡ size - 8 = omega arith in
+        let k : 4 + length b ≡ size .0 - 8 = omega (arith, told) in
         ap (λ (i : ℕ). riffBytes i ++ b) k
-        ∙ ap (λ (s : List ℕ). riffBytes (size - 8) ++ s) body-runs
-        ∙ sym (append-assoc (riffBytes (size - 8)) (formOf (m .format) ++ countOf (m .format) (m .frames)) (tables ++ sound))
+        ∙ ap (λ (s : List ℕ). riffBytes (size .0 - 8) ++ s) body-runs
+        ∙ sym (append-assoc (riffBytes (size .0 - 8)) (formOf (m .format) ++ countOf (m .format) (m .frames)) (tables ++ sound))
 
-    pub size-least : 12 ≤ size
-    unfolding fileOf
-    size-least = omega (arith, length-file (piecesOf (partsOf m w)))
+    all-long : length (first ++ (tables ++ sound)) ≤ length d
+    all-long = rw (← file-runs) (says .fits)
 
-    module _ (d : List ℕ) (s : settled m w (length d) ≡ Accepted) where
-      says : Settled m w (length d)
-      says = settled-says m w (length d) s
+    pub opening-room : length first ≤ length d
+    opening-room = omega (arith, all-long, length-append first (tables ++ sound))
 
-      pub size-fits : size < 4294967296
-      size-fits = omega (arith, says .limit)
+    module _ {g : List ℕ} {at : ℕ} (p : Put d 0 first g) (k : at ≡ length first) where
+      long-rest : at + length (tables ++ sound) ≤ length g
+      long-rest = next-room first (tables ++ sound) {at = 0} (omega (arith, all-long)) p (omega arith)
 
-      all-long : length (first ++ (tables ++ sound)) ≤ length d
-      all-long = rw (← file-runs) (says .fits)
+      pub tables-room : at + length tables ≤ length g
+      tables-room = first-room tables sound at long-rest
 
-      pub opening-room : length first ≤ length d
-      opening-room = omega (arith, all-long, length-append first (tables ++ sound))
+      module _ {h : List ℕ} {next : ℕ} (q : Put g at tables h) (l : next ≡ at + length tables) where
+        pub sound-room : next + length sound ≤ length h
+        sound-room = next-room tables sound long-rest q l
 
-      module _ {g : List ℕ} {at : ℕ} (p : Put d 0 first g) (k : at ≡ length first) where
-        long-rest : at + length (tables ++ sound) ≤ length g
-        long-rest = next-room first (tables ++ sound) {at = 0} (omega (arith, all-long)) p (omega arith)
+        pub file-put : {z : List ℕ} → Put h next sound z → z ≡ front (fileOf m w) d
+        file-put {z} r =
+            let u = both-put tables sound long-rest q l r in
+            let v = both-put first (tables ++ sound) {at = 0} (omega (arith, all-long)) p (omega arith) u in
+            put-front (rw (file-runs) v)
 
-        pub tables-room : at + length tables ≤ length g
-        tables-room = first-room tables sound at long-rest
+pub ruleset filing = (file-told, sound-kept, format-kept, size-fits, size-least, opening-room, tables-room, sound-room, file-put)
 
-        module _ {h : List ℕ} {next : ℕ} (q : Put g at tables h) (l : next ≡ at + length tables) where
-          pub sound-room : next + length sound ≤ length h
-          sound-room = next-room tables sound long-rest q l
-
-          pub file-put : {z : List ℕ} → Put h next sound z → z ≡ front (fileOf m w) d
-          file-put {z} r =
-              let u = both-put tables sound long-rest q l r in
-              let v = both-put first (tables ++ sound) {at = 0} (omega (arith, all-long)) p (omega arith) u in
-              put-front (rw (file-runs) v)
-
-module _ (m : Record) (w : List ℕ) (room : ℕ) (s : settled m w room ≡ Accepted) where
-  pub sound-limit : length w ≤ fileLimit
-  sound-limit = omega (arith, longer m w room, settled-says m w room s .limit)
-
-  pub format-kept : formatRule (m .format) ≡ true
-  format-kept = settled-says m w room s .rules .format
-
-pub ruleset filing = (size-least, size-fits, opening-room, tables-room, sound-room, file-put, sound-limit, format-kept)
+pub sound-limit : (m : Record) (w : List ℕ) (room : ℕ) → settled m w room ≡ Accepted → length w ≤ fileLimit
+sound-limit m w room s = omega (arith, longer m w room, settled-says m w room s .limit)
 
 -- ---- the answer
-module _ (m : Record) (w d : List ℕ) {v : Verdict} (e : v ≡ settled m w (length d)) where
-  pub asked : v ≡ Accepted → settled m w (length d) ≡ Accepted
+module _ (m : Record) (w d : List ℕ) {x : Written} (e : x ≡ writing m w (length d)) where
+  pub asked : {n : BytePlace} → x ≡ Bytes n → writing m w (length d) ≡ Bytes n
   asked f = sym e ∙ f
 
-  pub answer-written : {n : BytePlace} → v ≡ Accepted → n .0 ≡ length (fileOf m w) → Bytes n ≡ writing m w (length d)
-  unfolding writing
-  answer-written {n} f g =
-      let l : BytePlace = record { 0 = length (fileOf m w) } in
-      ap (λ (k : ℕ). Bytes (record { 0 = k })) g ∙ ap (λ (x : Verdict). writtenBy x l) (sym f ∙ e)
+pub held-refused : (ys d : List ℕ) {x : Written} {r : Refusal} → x ≡ written.Refused r → d ≡ holding x ys d
+held-refused ys d f = ap (λ (y : Written). holding y ys d) (sym f)
 
-  pub answer-refused : {r : Refusal} → v ≡ Refused r → written.Refused r ≡ writing m w (length d)
-  unfolding writing
-  answer-refused f = ap (λ (x : Verdict). writtenBy x (sizeOf (fileOf m w))) (sym f ∙ e)
-
-pub ruleset answering = (asked, answer-written, answer-refused)
+pub ruleset answering = (asked, held-refused)
 
 -- ---- a sound in one part is one with an empty second part
 module _ (m : Record) (w d : List ℕ) (r : Written) where

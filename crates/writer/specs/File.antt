@@ -1,6 +1,6 @@
 -- The file of a record and its sound, the verdict on writing it, and what the lent buffer then holds. Assumes nothing.
 use Prim.Native.Nat.{ℕ, _-_}
-use mathlib.Core.List.{List, _++_}
+use mathlib.Core.List.{List, [], _∷_, _++_}
 use lib.Dec.{leb}
 use lib.ListN.{length}
 use Rattle.little.specs.Writing.{front}
@@ -9,7 +9,9 @@ use Rattle.units.specs.declared.Frames.{Frames}
 use Rattle.units.specs.declared.Refusal.the-variants.{LengthOutOfRange, OutputTooSmall}
 use Rattle.units.specs.declared.Verdict.{Verdict}
 use Rattle.units.specs.declared.Verdict.the-variants as verdict
-use Rattle.units.specs.Refusals.{fileLimit, numberOf, demand}
+use Rattle.units.specs.Refusals.{fileLimit, numberOf}
+use Rattle.units.specs.Checks.{Check, check, decided}
+pub use Rattle.units.specs.Checks.{andThen}
 use Rattle.codes.specs.declared.Code.the-variants as code
 use Rattle.riff.specs.Laying.{Part, Parts, piece, pieceBytes, partBytes, riffBytes, piecesOf, fileBytes}
 use Rattle.formats.specs.declared.Format.{Format}
@@ -19,7 +21,7 @@ use Rattle.tables.specs.declared.Cues.{Cues}
 use Rattle.tables.specs.declared.Playlist.{Playlist}
 use Rattle.tables.specs.Bytes.{cuesBytes, playsBytes}
 use Rattle.rules.specs.declared.Record.{Record}
-use Rattle.rules.specs.Rules.{recordVerdict}
+use Rattle.rules.specs.Rules.{recordChecks}
 use Rattle.writer.specs.declared.Written.{Written}
 use Rattle.writer.specs.declared.Written.the-variants.{Bytes, Refused}
 
@@ -58,25 +60,22 @@ untilTables size f frames =
 abbrev pub tablesOf : Cues → Playlist → List ℕ
 tablesOf c p = partBytes code.Cue (cuesChunk c) ++ partBytes code.Playlist (playsChunk p)
 
--- ---- the verdict: 9 to 13, a file above the limit with 1, then 14
-
--- two verdicts in their order: the first that refuses decides
-abbrev pub andThen : Verdict → Verdict → Verdict
-andThen verdict.Accepted v = v
-andThen (verdict.Refused r) v = verdict.Refused r
+-- ---- the verdict
 
 -- so many bytes
 abbrev pub sizeOf : List ℕ → BytePlace
 sizeOf s = record { 0 = length s }
 
--- 9 to 13, then 1
-unfoldable pub beforeRoom : Record → List ℕ → Verdict
-beforeRoom m w =
-    andThen (recordVerdict m (sizeOf w))
-    (demand (leb (length (fileOf m w)) fileLimit) LengthOutOfRange verdict.Accepted)
+-- of the file itself: 1 above the limit, then 14 where there is not room for so many bytes
+abbrev pub fileChecks : List ℕ → ℕ → List Check
+fileChecks s room = check (leb (length s) fileLimit) LengthOutOfRange ∷ check (leb (length s) room) OutputTooSmall ∷ []
 
-unfoldable pub settled : Record → List ℕ → ℕ → Verdict
-settled m w room = andThen (beforeRoom m w) (demand (leb (length (fileOf m w)) room) OutputTooSmall verdict.Accepted)
+-- 9 to 13, then 1, then 14
+unfoldable pub writeChecks : Record → List ℕ → ℕ → List Check
+writeChecks m w room = recordChecks m (sizeOf w) ++ fileChecks (fileOf m w) room
+
+abbrev pub settled : Record → List ℕ → ℕ → Verdict
+settled m w room = decided (writeChecks m w room)
 
 -- ---- the answer, with room for so many bytes
 

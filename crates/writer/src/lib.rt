@@ -18,13 +18,13 @@ ghost use Prim.Native.Nat.{_+_, _≤_};
 ghost use lib.ListN.{length};
 ghost use Rattle.units.specs.Refusals.{fileLimit};
 ghost use Rattle.codes.specs.declared.Code.the-variants as code;
-ghost use Rattle.little.specs.Writing.{Put, front};
-ghost use Rattle.units.specs.declared.Verdict.the-variants as verdict;
+ghost use Rattle.little.specs.Writing.{Put};
 ghost use Rattle.formats.specs.Format.{formatRule};
 ghost use Rattle.formats.specs.Frames.{needsFact};
 ghost use Rattle.formats.specs.Bytes.{formatBytes};
 ghost use Rattle.riff.specs.Laying.{piece, padBytes, pieceBytes, partBytes, extentIf};
-ghost use Rattle.writer.specs.File.{factChunk, cuesChunk, playsChunk, fileOf, untilTables, tablesOf, settled, writing, holding};
+ghost use Rattle.writer.specs.declared.Written.the-variants.{Bytes};
+ghost use Rattle.writer.specs.File.{factChunk, cuesChunk, playsChunk, fileOf, untilTables, tablesOf, writing, holding};
 
 // What writing answers: the number of bytes of the file, or why there is none.
 pub enum Written {
@@ -90,27 +90,27 @@ fn file_size(made: Record, first: &[u8], second: &[u8]) -> usize
     12 + 8 + fmt + fact + cue + plst + 8 + n + n % 2
 }
 
-// The verdict on writing a record and its sound: 9 to 13, then 1, then 14.
-fn settle(made: Record, first: &[u8], second: &[u8], room: usize) -> Verdict
-    ensures answer { λ r. ⌜ r ≡ settled made (now (first .entry) ++ now (second .entry)) room ⌝ }
+// The answer to writing a record and its sound, before a byte is put: 9 to 13, then 1, then 14.
+fn settle(made: Record, first: &[u8], second: &[u8], room: usize) -> Written
+    ensures answer { λ r. ⌜ r ≡ writing made (now (first .entry) ++ now (second .entry)) room ⌝ }
 {
     let sound = sound_size(first, second);
     let ruled = rules::record_verdict(made, BytePlace(sound));
-    let Verdict::Accepted = ruled else {
-        return ruled;
-    };
+    if let Verdict::Refused(refusal) = ruled {
+        return Written::Refused(refusal);
+    }
     // So that the sum in `file_size` fits.
     if units::LIMIT < sound {
-        return Verdict::Refused(Refusal::LengthOutOfRange);
+        return Written::Refused(Refusal::LengthOutOfRange);
     }
     let size = file_size(made, first, second);
     if units::LIMIT < size {
-        return Verdict::Refused(Refusal::LengthOutOfRange);
+        return Written::Refused(Refusal::LengthOutOfRange);
     }
     if room < size {
-        return Verdict::Refused(Refusal::OutputTooSmall);
+        return Written::Refused(Refusal::OutputTooSmall);
     }
-    Verdict::Accepted
+    Written::Bytes(BytePlace(size))
 }
 
 // ---- the chunks; each function puts one at a place, where it is written, and gives the place behind it
@@ -192,7 +192,8 @@ fn put_joined(out: &mut [u8], at: usize, first: &[u8], second: &[u8])
 fn put_sound(out: &mut [u8], at: usize, first: &[u8], second: &[u8])
     requires { ⌜ length (now first ++ now second) ≤ fileLimit ⌝ }
     requires { ⌜ at + length (pieceBytes (piece code.Data (now first ++ now second))) ≤ length (now out) ⌝ }
-    ensures buffer { λ _. ⌜ Put (now (out .entry)) at (pieceBytes (piece code.Data (now (first .entry) ++ now (second .entry)))) (now (out .exit)) ⌝ }
+    ensures buffer { λ _. ⌜ Put (now (out .entry)) at
+        (pieceBytes (piece code.Data (now (first .entry) ++ now (second .entry)))) (now (out .exit)) ⌝ }
 {
     let size = sound_size(first, second);
     riff::put_head(out, at, Code::Data, size as u32);
@@ -225,21 +226,21 @@ fn put_tables(out: &mut [u8], at: usize, cues: Cues, playlist: Playlist) -> usiz
     put_plays(out, next, playlist)
 }
 
-// Puts the whole file, for which all is settled, and gives its length.
-fn put_file(made: Record, first: &[u8], second: &[u8], out: &mut [u8]) -> BytePlace
-    requires { ⌜ settled made (now first ++ now second) (length (now out)) ≡ verdict.Accepted ⌝ }
-    ensures size { λ r. ⌜ r .0 ≡ length (fileOf made (now (first .entry) ++ now (second .entry))) ⌝ }
-    ensures buffer { λ r. ⌜ now (out .exit) ≡ front (fileOf made (now (first .entry) ++ now (second .entry))) (now (out .entry)) ⌝ }
+// Puts the whole file, of which it is settled that it has so many bytes, and tells them.
+fn put_file(made: Record, first: &[u8], second: &[u8], size: BytePlace, out: &mut [u8]) -> Written
+    requires { ⌜ writing made (now first ++ now second) (length (now out)) ≡ Bytes size ⌝ }
+    ensures answer { λ r. ⌜ r ≡ writing made (now (first .entry) ++ now (second .entry)) (length (now (out .entry))) ⌝ }
+    ensures buffer { λ r. ⌜ now (out .exit)
+        ≡ holding r (fileOf made (now (first .entry) ++ now (second .entry))) (now (out .entry)) ⌝ }
 {
     let format = made.format;
     let frames = made.frames;
     let cues = made.cues;
     let playlist = made.playlist;
-    let size = file_size(made, first, second);
-    let tables = put_opening(out, size as u32, format, frames);
+    let tables = put_opening(out, size.0 as u32, format, frames);
     let data_at = put_tables(out, tables, cues, playlist);
     put_sound(out, data_at, first, second);
-    BytePlace(size)
+    Written::Bytes(size)
 }
 
 // Writes a record and its sound as a file, from the start of a lent buffer.
@@ -253,11 +254,12 @@ pub fn write(made: Record, sound: &[u8], out: &mut [u8]) -> Written
 // The same with a sound in two parts, one behind the other, as adding to a side has it.
 pub fn write_joined(made: Record, first: &[u8], second: &[u8], out: &mut [u8]) -> Written
     ensures answer { λ r. ⌜ r ≡ writing made (now (first .entry) ++ now (second .entry)) (length (now (out .entry))) ⌝ }
-    ensures buffer { λ r. ⌜ now (out .exit) ≡ holding r (fileOf made (now (first .entry) ++ now (second .entry))) (now (out .entry)) ⌝ }
+    ensures buffer { λ r. ⌜ now (out .exit)
+        ≡ holding r (fileOf made (now (first .entry) ++ now (second .entry))) (now (out .entry)) ⌝ }
 {
-    let verdict = settle(made, first, second, out.len());
-    match verdict {
-        Verdict::Refused(refusal) => Written::Refused(refusal),
-        Verdict::Accepted => Written::Bytes(put_file(made, first, second, out)),
-    }
+    let answer = settle(made, first, second, out.len());
+    let Written::Bytes(size) = answer else {
+        return answer;
+    };
+    put_file(made, first, second, size, out)
 }

@@ -1,11 +1,14 @@
--- Each demand is the one of the definition.
-use Rattle.rules.proofs.Laws.{ordering}
+-- The tests in the order of the definition.
+use Rattle.units.proofs.Checks.{deciding}
+use Rattle.rules.specs.Rules.{recordChecks}
 use borrow.Author.Needs.{needs}
 use Rattle.rules.proofs.record_verdict.Statement.{statement}
 use Rattle.rules.proofs.record_verdict.Tie as tie
 
 pub record-verdict-spec : {M : Type 1} → statement M
+unfolding recordChecks
 record-verdict-spec =
     tie.close
-    (tie.spec (λ c κs. search needs) (λ c κs. search needs) (λ c κs. search needs) (λ c κs. search needs)
-    (λ c κs. search needs) (λ c κs. search needs) (λ c. search (needs, ordering)))
+    (tie.spec (λ c κs. search needs) (λ c. search (needs, deciding)) (λ c κs. search needs) (λ c. search (needs, deciding))
+    (λ c κs. search needs) (λ c. search (needs, deciding)) (λ c κs. search needs) (λ c. search (needs, deciding))
+    (λ c κs. search needs) (λ c. search (needs, deciding)) (λ c. search (needs, deciding) depth 12))

@@ -7,6 +7,5 @@ use Rattle.writer.proofs.put_file.Tie as tie
 pub put-file-spec : {M : Type 1} → statement M
 put-file-spec =
     tie.close
-    (tie.spec (λ c κs. search (needs, filing)) (λ c. search (needs, filing)) (λ c κs. search (needs, filing))
-    (λ c κs. search (needs, filing)) (λ c κs. search (needs, filing)) (λ c. search needs)
-    (λ c. search (needs, filing)))
+    (tie.spec (λ c. search (needs, filing)) (λ c κs. search (needs, filing)) (λ c κs. search (needs, filing))
+    (λ c κs. search (needs, filing)) (λ c. search needs) (λ c. search (needs, filing)))

@@ -7,6 +7,6 @@ use Rattle.writer.proofs.settle.Tie as tie
 pub settle-spec : {M : Type 1} → statement M
 settle-spec =
     tie.close
-    (tie.spec (λ c κs. search needs) (λ c κs. search needs) (λ c. search needs) (λ c. search needs)
-    (λ c. search (needs, settling)) (λ c. search (needs, settling)) (λ c κs. search needs)
-    (λ c. search (needs, settling)) (λ c. search (needs, settling)) (λ c. search (needs, settling)))
+    (tie.spec (λ c κs. search needs) (λ c κs. search needs) (λ c. search needs) (λ c. search (needs, settling))
+    (λ c. search needs) (λ c. search (needs, settling)) (λ c κs. search needs) (λ c. search (needs, settling))
+    (λ c. search (needs, settling)) (λ c. search (needs, settling)))

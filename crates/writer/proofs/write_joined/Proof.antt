@@ -7,5 +7,5 @@ use Rattle.writer.proofs.write_joined.Tie as tie
 pub write-joined-spec : {M : Type 1} → statement M
 write-joined-spec =
     tie.close
-    (tie.spec (λ c κs. search needs) (λ c. search needs) (λ c. search needs) (λ c κs. search (needs, answering))
-    (λ c. search (needs, answering)) (λ c. search needs) (λ c. search (needs, answering)))
+    (tie.spec (λ c κs. search needs) (λ c. search needs) (λ c. search needs) (λ c. search (needs, answering))
+    (λ c κs. search (needs, answering)) (λ c. search needs) (λ c. search needs))
