@@ -26,6 +26,7 @@ use Rattle.writer.specs.File.{writing}
 use Rattle.writer.proofs.Settling.{and-met}
 use Rattle.side.specs.declared.Added.the-variants.{Bytes, Refused}
 use Rattle.side.specs.Side.{sideRead, songsHeld, isSideFile, songsIn, isListed, listedSound}
+use Rattle.side.specs.Demands.{Sent, answerTo}
 use Rattle.side.specs.Adding.{suits, onceMore, hasPlace, placeVerdict, addVerdict, newRecord, newSound, told, addedBy, adding}
 
 -- ---- each demand of the verdict is met, of two files as they were read
@@ -76,71 +77,69 @@ place-says m frames limit e =
     let p = and-both (ltb (m .cues .count) 64) (leb n (limit .0)) e in
     (ltb-true (m .cues .count) 64 (p .0), leb-true n (limit .0) (p .1))
 
--- ---- the song of a file t is taken on the side of a file s
-pub record Taking (s t : List ℕ) (number : Donation) (limit : Frames) : Type 0 where
-  pub taken : reading t .verdict ≡ verdict.Accepted
+-- ---- a song is taken on the side of a file s
+pub record Taking (s : List ℕ) (x : Sent) : Type 0 where
+  pub taken : reading (x .file) .verdict ≡ verdict.Accepted
   pub side : isSideFile s ≡ true
-  pub suited : suits (fileFormat s) (fileFormat t) ≡ true
-  pub some : 1 ≤ fileFrames t
-  pub fresh : isListed number (songsIn s) ≡ false
+  pub suited : suits (fileFormat s) (fileFormat (x .file)) ≡ true
+  pub some : 1 ≤ fileFrames (x .file)
+  pub fresh : isListed (x .number) (songsIn s) ≡ false
   pub few : reading s .made .cues .count < 64
-  pub within : fileFrames s + fileFrames t ≤ limit .0
+  pub within : fileFrames s + fileFrames (x .file) ≤ x .limit .0
 
-module _ (s t : List ℕ) (number : Donation) (limit : Frames) where
+module _ (s : List ℕ) (x : Sent) where
   abbrev pub place : Bool
-  place = hasPlace (reading s .made) (reading t .made .frames) limit
+  place = hasPlace (reading s .made) (reading (x .file) .made .frames) (x .limit)
 
   abbrev judged : Verdict
-  judged = addVerdict (reading s) (soundIn s) (reading t) (soundIn t) number limit
+  judged = addVerdict (reading s) (soundIn s) (reading (x .file)) (soundIn (x .file)) (x .number) (x .limit)
 
   -- in the words of the tests
-  pub taking : reading t .verdict ≡ verdict.Accepted → isSideFile s ≡ true → suits (fileFormat s) (fileFormat t) ≡ true
-      → leb 1 (fileFrames t) ≡ true → isListed number (songsIn s) ≡ false → place ≡ true → Taking s t number limit
+  pub taking : reading (x .file) .verdict ≡ verdict.Accepted → isSideFile s ≡ true → suits (fileFormat s) (fileFormat (x .file)) ≡ true
+      → leb 1 (fileFrames (x .file)) ≡ true → isListed (x .number) (songsIn s) ≡ false → place ≡ true → Taking s x
   taking a b c d e f =
-      let q = place-says (reading s .made) (reading t .made .frames) limit f in
-      record { taken = a; side = b; suited = c; some = leb-true 1 (fileFrames t) d; fresh = e; few = q .0; within = q .1 }
+      let q = place-says (reading s .made) (reading (x .file) .made .frames) (x .limit) f in
+      record { taken = a; side = b; suited = c; some = leb-true 1 (fileFrames (x .file)) d; fresh = e; few = q .0; within = q .1 }
 
-  judged-says : judged ≡ verdict.Accepted → Taking s t number limit
+  judged-says : judged ≡ verdict.Accepted → Taking s x
   judged-says e =
-      let k = verdict-says (reading s) (soundIn s) (reading t) (soundIn t) number limit e in
+      let k = verdict-says (reading s) (soundIn s) (reading (x .file)) (soundIn (x .file)) (x .number) (x .limit) e in
       taking (k .taken) (k .side) (k .suited) (k .some) (k .fresh) (k .place)
 
-  judged-taken : Taking s t number limit → judged ≡ verdict.Accepted
+  judged-taken : Taking s x → judged ≡ verdict.Accepted
   unfolding addVerdict placeVerdict hasPlace
   judged-taken k =
-      let a = le-leb 1 (fileFrames t) (k .some) in
+      let a = le-leb 1 (fileFrames (x .file)) (k .some) in
       let b = lt-ltb (reading s .made .cues .count) 64 (k .few) in
-      let c = le-leb (fileFrames s + fileFrames t) (limit .0) (k .within) in
+      let c = le-leb (fileFrames s + fileFrames (x .file)) (x .limit .0) (k .within) in
       simp (k .taken, k .side, k .suited, k .fresh, a, b, c)
 
-  -- ---- with room for so many bytes
-  module _ (room : ℕ) where
-    abbrev pub writes : Written
-    writes = writing (newRecord s t number) (newSound s t) room
+  -- ---- with its room
+  abbrev pub writes : Written
+  writes = writing (newRecord s (x .file) (x .number)) (newSound s (x .file)) (x .room)
 
-    pub added-says : (n : BytePlace) → adding s t number limit room ≡ Bytes n
-        → Taking s t number limit × (writes ≡ written.Bytes n)
-    unfolding adding
-    added-says n e = let p = by judged writes e in (judged-says (p .0), p .1)
-      where
-        by : (v : Verdict) (w : Written) → addedBy v w ≡ Bytes n → (v ≡ verdict.Accepted) × (w ≡ written.Bytes n)
-        by verdict.Accepted (written.Bytes k) h = (refl, cc)
-        by verdict.Accepted (written.Refused r) h = let z : _≡_ {A = ℕ} 0 1 = cc in absurd (omega arith)
-        by (verdict.Refused r) w h = let z : _≡_ {A = ℕ} 0 1 = cc in absurd (omega arith)
+  pub added-says : (n : BytePlace) → answerTo s x ≡ Bytes n → Taking s x × (writes ≡ written.Bytes n)
+  unfolding adding
+  added-says n e = let p = by judged writes e in (judged-says (p .0), p .1)
+    where
+      by : (v : Verdict) (w : Written) → addedBy v w ≡ Bytes n → (v ≡ verdict.Accepted) × (w ≡ written.Bytes n)
+      by verdict.Accepted (written.Bytes k) h = (refl, cc)
+      by verdict.Accepted (written.Refused r) h = let z : _≡_ {A = ℕ} 0 1 = cc in absurd (omega arith)
+      by (verdict.Refused r) w h = let z : _≡_ {A = ℕ} 0 1 = cc in absurd (omega arith)
 
-    pub taking-added : Taking s t number limit → adding s t number limit room ≡ told writes
-    unfolding adding
-    taking-added k = ap (λ (v : Verdict). addedBy v writes) (judged-taken k)
+  pub taking-added : Taking s x → answerTo s x ≡ told writes
+  unfolding adding
+  taking-added k = ap (λ (v : Verdict). addedBy v writes) (judged-taken k)
 
-    -- ---- a song that suits: without frames, or with a number that is listed
-    module _ (a : reading t .verdict ≡ verdict.Accepted) (b : isSideFile s ≡ true)
-        (c : suits (fileFormat s) (fileFormat t) ≡ true) where
-      pub empty-added : leb 1 (fileFrames t) ≡ false → adding s t number limit room ≡ Refused SongEmptyOrDifferent
-      unfolding adding addVerdict
-      empty-added f = simp (a, b, c, f)
+  -- ---- a song that suits: without frames, or with a number that is listed
+  module _ (a : reading (x .file) .verdict ≡ verdict.Accepted) (b : isSideFile s ≡ true)
+      (c : suits (fileFormat s) (fileFormat (x .file)) ≡ true) where
+    pub empty-added : leb 1 (fileFrames (x .file)) ≡ false → answerTo s x ≡ Refused SongEmptyOrDifferent
+    unfolding adding addVerdict
+    empty-added f = simp (a, b, c, f)
 
-      pub listed-added : {q : Bool} → leb 1 (fileFrames t) ≡ true → isListed number (songsIn s) ≡ true
-          → sameBytes (listedSound number (songsIn s)) (soundIn t) ≡ q
-          → adding s t number limit room ≡ Refused (cond q AlreadyListed SongEmptyOrDifferent)
-      unfolding adding addVerdict placeVerdict onceMore
-      listed-added f l e = simp (a, b, c, f, l, e)
+    pub listed-added : {q : Bool} → leb 1 (fileFrames (x .file)) ≡ true → isListed (x .number) (songsIn s) ≡ true
+        → sameBytes (listedSound (x .number) (songsIn s)) (soundIn (x .file)) ≡ q
+        → answerTo s x ≡ Refused (cond q AlreadyListed SongEmptyOrDifferent)
+    unfolding adding addVerdict placeVerdict onceMore
+    listed-added f l e = simp (a, b, c, f, l, e)

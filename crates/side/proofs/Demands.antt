@@ -1,5 +1,5 @@
 -- Demand 2 of sides: by what an answer says of the verdict, and by what the written file holds. Assumes nothing.
-use mathlib.Core.Path.{_≡_, refl, sym, ap, _∙_}
+use mathlib.Core.Path.{_≡_, refl, sym, ap, _∙_, subst}
 use mathlib.Core.Bool.{Bool, true, false, cond, _||_}
 use mathlib.Core.List.{List, [], _∷_}
 use Prim.Native.Nat.{ℕ, _+_, _*_, _<_}
@@ -9,17 +9,19 @@ use lib.ListN.{length, length-append}
 use borrow.Author.Tests.{leb-false, eq-eqb}
 use Rattle.little.specs.Same.{sameBytes}
 use Rattle.little.proofs.Comparing.{same-itself, same-not}
+use Rattle.units.specs.declared.BytePlace.{BytePlace}
+use Rattle.units.specs.declared.Donation.{Donation}
+use Rattle.units.specs.declared.Verdict.the-variants.{Accepted}
 use Rattle.formats.specs.declared.Format.{Format}
 use Rattle.rules.specs.declared.Record.{Record}
-use Rattle.reader.specs.Content.{holds, contentOf, soundIn, fileFormat, fileFrames}
+use Rattle.reader.specs.Content.{holds, contentOf, reading, soundIn, fileFormat, fileFrames}
 use Rattle.writer.specs.Demands.{Back}
 use Rattle.writer.proofs.Settling.{settled-says}
 use Rattle.writer.proofs.Demands.{bytes-say, content-written, back}
 use Rattle.writer.proofs.Bytes.{file-bytes}
-use Rattle.side.specs.declared.Added.{Added}
-use Rattle.side.specs.Side.{Song, songsIn, isListed, listedSound}
-use Rattle.side.specs.Adding.{suits, withSong, newRecord, newSound, newFile, holding}
-use Rattle.side.specs.Demands.{fileWith, songFrom, Grown, Grows, StaysWithin, Listed, OnceListed, AddedAgain, LeavesAll}
+use Rattle.side.specs.Side.{Song, isSideFile, songsIn, isListed, listedSound}
+use Rattle.side.specs.Adding.{suits, withSong, newRecord, newSound, newFile}
+use Rattle.side.specs.Demands.{Sent, fileWith, songFrom, Adds, Grown, Grows, StaysWithin, Listed, OnceListed, AddedAgain}
 use Rattle.side.proofs.Growing.{songs-count}
 use Rattle.side.proofs.Answers.{added-says, empty-added, listed-added}
 use Rattle.side.proofs.Sides.{held-made, held-sound, held-side, held-songs, standing, song-long}
@@ -29,16 +31,16 @@ use Rattle.side.proofs.Joining.{new-fits, new-kept, new-bytes, new-side
 -- ---- a song that is added
 pub grows : Grows
 unfolding Grows Back newFile withSong
-grows s x limit room n h =
-    let p = added-says s (x .file) (x .number) limit room n (h .answer) in
+grows s x n h =
+    let p = added-says s x n (h .answer) in
     let k = p .0 in
     let m : Record = newRecord s (x .file) (x .number) in
     let w : List ℕ = newSound s (x .file) in
     let new : List ℕ = fileWith s x in
-    let fits = new-fits k (h .bytes) (h .sent .number) (h .fits) in
-    let c : contentOf new ≡ holds m w = content-written m w room n fits (p .1) ∙ ap (λ (z : Record). holds z w) (new-kept k) in
+    let fits = new-fits k (h .bytes) (h .sent .number) (h .sent .limit) in
+    let c : contentOf new ≡ holds m w = content-written m w (x .room) n fits (p .1) ∙ ap (λ (z : Record). holds z w) (new-kept k) in
     record {
-      long = back m w room n fits (p .1) .long;
+      long = back m w (x .room) n fits (p .1) .long;
       bytes = file-bytes m w (new-bytes k (h .bytes) (h .sent .file));
       side = held-side new c ∙ new-side k;
       format = ap (λ (z : Record). z .format) (held-made new c);
@@ -47,73 +49,94 @@ grows s x limit room n h =
       sound = held-sound new c;
     }
 
+pub songs-grown : (s : List ℕ) (x : Sent) {n : BytePlace} → Grown s x n → length (songsIn (fileWith s x)) ≡ length (songsIn s) + 1
+songs-grown s x g = ap length (g .songs) ∙ length-append (songsIn s) (songFrom (fileFrames s) x ∷ [])
+
 pub stays-within : StaysWithin
 unfolding StaysWithin Grows newFile
-stays-within s x limit room n h =
-    let p = added-says s (x .file) (x .number) limit room n (h .answer) in
+stays-within s x n h =
+    let p = added-says s x n (h .answer) in
     let k = p .0 in
-    let g : Grown s x n = grows s x limit room n h in
+    let g : Grown s x n = grows s x n h in
     let m : Record = newRecord s (x .file) (x .number) in
     let w : List ℕ = newSound s (x .file) in
     let c = songs-count (standing s (k .side)) in
     let f = g .frames in
-    let one : List Song = songFrom (fileFrames s) x ∷ [] in
-    let i : length (songsIn (fileWith s x)) ≡ length (songsIn s) + 1 = ap length (g .songs) ∙ length-append (songsIn s) one in
     record {
-      songs = omega (arith, k .few);
+      songs = omega (arith, k .few, songs-grown s x g);
       frames = omega (arith, k .within);
       size = new-long k;
-      most = settled-says m w room (bytes-say m w room n (p .1)) .limit;
+      most = settled-says m w (x .room) (bytes-say m w (x .room) n (p .1)) .limit;
     }
 
 -- ---- a listed number
 pub once-listed : OnceListed
 unfolding OnceListed
-once-listed s t number limit room a l b c = by (leb 1 (fileFrames t)) refl
+once-listed s x a l b c = by (leb 1 (fileFrames (x .file))) refl
   where
-    -- a file with the sound of a listed song has frames
-    frames-some : soundIn t ≡ listedSound number (songsIn s) → fileFrames t < 1 → ⊥
-    frames-some e h =
-        let z : fileFormat s .align * fileFrames t ≡ fileFormat s .align * 0 = ap (λ (n : ℕ). fileFormat s .align * n) (omega arith) in
-        let g = ap length e in
-        omega (arith, song-long s a t b c, sound-some (standing s a) number l)
+    listed : List ℕ
+    listed = listedSound (x .number) (songsIn s)
 
-    by : (q : Bool) → leb 1 (fileFrames t) ≡ q → Listed s t number limit room
+    -- a file with the sound of a listed song has frames
+    frames-some : soundIn (x .file) ≡ listed → fileFrames (x .file) < 1 → ⊥
+    frames-some e h =
+        let z : fileFormat s .align * fileFrames (x .file) ≡ fileFormat s .align * 0 = ap (λ (n : ℕ). fileFormat s .align * n) (omega arith) in
+        let g = ap length e in
+        omega (arith, song-long s a (x .file) b c, sound-some (standing s a) (x .number) l)
+
+    by : (q : Bool) → leb 1 (fileFrames (x .file)) ≡ q → Listed listed s x
     by true f =
         record {
           same = λ e.
-              listed-added s t number limit room b a c f l
-              (ap (λ (v : List ℕ). sameBytes v (soundIn t)) (sym e) ∙ same-itself (soundIn t));
+              listed-added s x b a c f l
+              (ap (λ (v : List ℕ). sameBytes v (soundIn (x .file))) (sym e) ∙ same-itself (soundIn (x .file)));
           other = λ n.
-              listed-added s t number limit room b a c f l
-              (sym (same-not (listedSound number (songsIn s)) (soundIn t) (λ e. n (sym e))));
+              listed-added s x b a c f l
+              (sym (same-not listed (soundIn (x .file)) (λ e. n (sym e))));
         }
     by false f =
         record {
-          same = λ e. absurd (frames-some e (leb-false 1 (fileFrames t) f));
-          other = λ n. empty-added s t number limit room b a c f;
+          same = λ e. absurd (frames-some e (leb-false 1 (fileFrames (x .file)) f));
+          other = λ n. empty-added s x b a c f;
         }
 
--- and it is listed in the file that adding it made
-pub added-again : AddedAgain
-unfolding AddedAgain Grows OnceListed isListed listedSound
-added-again s x limit room n h t later lent v f =
-    let k = added-says s (x .file) (x .number) limit room n (h .answer) .0 in
-    let g : Grown s x n = grows s x limit room n h in
-    let new : List ℕ = fileWith s x in
-    let one : List Song = songFrom (fileFrames s) x ∷ [] in
-    let own = eq-eqb (x .number .0) (x .number .0) refl in
-    let i : isListed (x .number) (songsIn new) ≡ true =
-    ap (isListed (x .number)) (g .songs)
-    ∙ listed-behind (x .number) (songsIn s) one (k .fresh)
-    ∙ ap (λ (q : Bool). q || false) own in
-    let j : listedSound (x .number) (songsIn new) ≡ soundIn (x .file) =
-    ap (listedSound (x .number)) (g .songs)
-    ∙ sound-behind (x .number) (songsIn s) one (k .fresh)
-    ∙ ap (λ (q : Bool). cond q (soundIn (x .file)) []) own in
-    let o = once-listed new t (x .number) later lent (g .side) i v (ap (λ (z : Format). suits z (fileFormat t)) (g .format) ∙ f) in
-    record { same = λ e. o .same (e ∙ sym j); other = λ e. o .other (λ z. e (z ∙ j)) }
+-- in the file that adding x made its number is listed, with its sound
+module _ (s : List ℕ) (x : Sent) (n : BytePlace) (h : Adds s x n) where
+  abbrev own : List Song
+  own = songFrom (fileFrames s) x ∷ []
 
-pub leaves-all : LeavesAll
-unfolding LeavesAll
-leaves-all s t number limit r d e = ap (λ (a : Added). holding a (newFile s t number) d) e
+  made : Grown s x n
+  unfolding Grows
+  made = grows s x n h
+
+  fresh : isListed (x .number) (songsIn s) ≡ false
+  fresh = added-says s x n (h .answer) .0 .fresh
+
+  pub own-listed : isListed (x .number) (songsIn (fileWith s x)) ≡ true
+  unfolding isListed
+  own-listed =
+      ap (isListed (x .number)) (made .songs)
+      ∙ listed-behind (x .number) (songsIn s) own fresh
+      ∙ ap (λ (q : Bool). q || false) (eq-eqb (x .number .0) (x .number .0) refl)
+
+  own-sound : listedSound (x .number) (songsIn (fileWith s x)) ≡ soundIn (x .file)
+  unfolding listedSound
+  own-sound =
+      ap (listedSound (x .number)) (made .songs)
+      ∙ sound-behind (x .number) (songsIn s) own fresh
+      ∙ ap (λ (q : Bool). cond q (soundIn (x .file)) []) (eq-eqb (x .number .0) (x .number .0) refl)
+
+-- what a song under a listed number is told rests on the format of the side, and on the sound under the number
+pub told-listed : (s : List ℕ) (x : Sent) {f : Format} {sound : List ℕ} → isSideFile s ≡ true → isListed (x .number) (songsIn s) ≡ true
+    → reading (x .file) .verdict ≡ Accepted → suits f (fileFormat (x .file)) ≡ true
+    → fileFormat s ≡ f → listedSound (x .number) (songsIn s) ≡ sound → Listed sound s x
+unfolding OnceListed
+told-listed s x a l v c f e =
+    subst (λ (w : List ℕ). Listed w s x) e (once-listed s x a l v (ap (λ (z : Format). suits z (fileFormat (x .file))) f ∙ c))
+
+pub added-again : AddedAgain
+unfolding AddedAgain
+added-again s x y n h e v c =
+    let new : List ℕ = fileWith s x in
+    told-listed new y (made s x n h .side) (ap (λ (d : Donation). isListed d (songsIn new)) e ∙ own-listed s x n h) v c
+    (made s x n h .format) (ap (λ (d : Donation). listedSound d (songsIn new)) e ∙ own-sound s x n h)

@@ -18,12 +18,18 @@ use Rattle.reader.proofs.Again.{content-fits, content-kept-read}
 use Rattle.writer.specs.File.{sizeOf}
 use Rattle.side.specs.Side.{isSide, songsHeld, songsIn}
 use Rattle.side.specs.Adding.{newRecord, newSound, newFile}
-use Rattle.side.specs.Demands.{songFrom, sideSize}
+use Rattle.side.specs.Demands.{Sent, songFrom, sideSize}
 use Rattle.side.proofs.Growing.{Standing, songs-count, grown-rules, grown-fits, grown-kept, grown-side, grown-songs, grown-long}
 use Rattle.side.proofs.Answers.{Taking}
 use Rattle.side.proofs.Sides.{sound-bytes, side-held, standing, song-long}
 
-module _ {s t : List ℕ} {number : Donation} {limit : Frames} (k : Taking s t number limit) where
+module _ {s : List ℕ} {x : Sent} (k : Taking s x) where
+  abbrev t : List ℕ
+  t = x .file
+
+  abbrev number : Donation
+  number = x .number
+
   abbrev frames : Frames
   frames = reading t .made .frames
 
@@ -36,7 +42,7 @@ module _ {s t : List ℕ} {number : Donation} {limit : Frames} (k : Taking s t n
   pub new-rules : Writable (newRecord s t number) (sizeOf (newSound s t))
   new-rules = grown-rules stands number frames (soundIn t) (k .few) (k .some) long (k .fresh)
 
-  pub new-fits : T (areBytes s) → number .0 < 4294967296 → limit .0 < 4294967296 → RecordFits (newRecord s t number)
+  pub new-fits : T (areBytes s) → number .0 < 4294967296 → x .limit .0 < 4294967296 → RecordFits (newRecord s t number)
   new-fits b h l =
       let i = k .within in
       grown-fits stands number frames (soundIn t) (k .few) (k .some) long (content-fits s (side-held s (k .side)) b) h (omega arith)
@@ -53,7 +59,7 @@ module _ {s t : List ℕ} {number : Donation} {limit : Frames} (k : Taking s t n
   new-side = grown-side stands number frames (soundIn t) (k .few) (k .some) long
 
   pub new-songs : songsHeld (newRecord s t number) (newSound s t)
-      ≡ songsIn s ++ (songFrom (fileFrames s) (record { file = t; number = number }) ∷ [])
+      ≡ songsIn s ++ (songFrom (fileFrames s) x ∷ [])
   new-songs = grown-songs stands number frames (soundIn t) (k .few) (k .some) long
 
   pub new-long : length (newFile s t number) ≡ sideSize (fileFormat s) (length (songsIn s) + 1) (fileFrames s + fileFrames t)

@@ -46,6 +46,16 @@ module _ (number : Donation) where
       by true h k = refl
       by false h k = k h
 
+  pub sound-before : (xs ys : List Song) → isListed number xs ≡ true → listedSound number (xs ++ ys) ≡ listedSound number xs
+  unfolding isListed listedSound
+  sound-before [] ys e = absurd (subst T (sym e) tt)
+  sound-before (x ∷ xs) ys e = by (eqb (x .number .0) (number .0)) e (sound-before xs ys)
+    where
+      by : (b : Bool) → (b || isListed number xs) ≡ true → (isListed number xs ≡ true → listedSound number (xs ++ ys) ≡ listedSound number xs)
+          → cond b (x .sound) (listedSound number (xs ++ ys)) ≡ cond b (x .sound) (listedSound number xs)
+      by true h k = refl
+      by false h k = k h
+
   pub sound-behind : (xs ys : List Song) → isListed number xs ≡ false → listedSound number (xs ++ ys) ≡ listedSound number ys
   unfolding isListed listedSound
   sound-behind [] ys e = refl

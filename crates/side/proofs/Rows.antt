@@ -27,7 +27,7 @@ use Rattle.writer.specs.Demands as below
 use Rattle.writer.proofs.Demands as below-proofs
 use Rattle.side.specs.Side.{isSideFile, songsIn, isListed, listedSound}
 use Rattle.side.specs.Adding.{suits, onceMore, hasPlace, placeVerdict, addVerdict, newRecord, newSound, newFile, told, addedBy, adding, addedNumber}
-use Rattle.side.specs.Demands.{orElse, AddNumbered}
+use Rattle.side.specs.Demands.{Sent, orElse, AddNumbered}
 use Rattle.side.proofs.Growing.{songs-count}
 use Rattle.side.proofs.Answers.{Taking, place, taking, writes}
 use Rattle.side.proofs.Sides.{standing}
@@ -89,8 +89,11 @@ written-row m w room k =
 
 -- ---- the table
 module _ (s t : List ℕ) (number : Donation) (limit : Frames) (room : ℕ) where
+  abbrev sent : Sent
+  sent = record { file = t; number = number; limit = limit; room = room }
+
   place-row : isSideFile s ≡ true
-      → not (place s t number limit) ≡ (leb 64 (length (songsIn s)) || ltb (limit .0) (fileFrames s + fileFrames t))
+      → not (place s sent) ≡ (leb 64 (length (songsIn s)) || ltb (limit .0) (fileFrames s + fileFrames t))
   unfolding hasPlace
   place-row e =
       let n : ℕ = reading s .made .cues .count in
@@ -111,20 +114,21 @@ module _ (s t : List ℕ) (number : Donation) (limit : Frames) (room : ℕ) wher
   fromListed =
       cond (isListed number (songsIn s)) (cond (sameBytes (listedSound number (songsIn s)) (soundIn t)) 18 16) fromPlace
 
-  size-row : Taking s t number limit → addedNumber (told (writes s t number limit room)) ≡ fromSize
+  size-row : Taking s sent → addedNumber (told (writes s sent)) ≡ fromSize
   unfolding newFile
   size-row k = written-row (newRecord s t number) (newSound s t) room (new-rules k)
 
 pub numbered : AddNumbered
 unfolding AddNumbered adding addVerdict placeVerdict onceMore
 numbered s t number limit room =
-    let w = writes s t number limit room in
+    let x = sent s t number limit room in
+    let w = writes s x in
     first-row w (reading t .verdict) _ _ (λ a.
     row w (isSideFile s) NotASide _ _ (λ b.
     row w (suits (fileFormat s) (fileFormat t)) FormatWrong _ _ (λ c.
     row w (leb 1 (fileFrames t)) SongEmptyOrDifferent _ (fromListed s t number limit room) (λ d.
     listed-row w (isListed number (songsIn s)) (sameBytes (listedSound number (songsIn s)) (soundIn t)) _ _ (λ e.
-    row w (place s t number limit) NoPlaceOnSide verdict.Accepted (fromSize s t number limit room) (λ f.
-    size-row s t number limit room (taking s t number limit a b c d e f))
+    row w (place s x) NoPlaceOnSide verdict.Accepted (fromSize s t number limit room) (λ f.
+    size-row s t number limit room (taking s x a b c d e f))
     ∙ ap (λ (q : Bool). cond q 17 (fromSize s t number limit room)) (place-row s t number limit room b)))
     ∙ ap (λ (q : Bool). cond q 16 (fromListed s t number limit room)) (not-some (fileFrames t)))))

@@ -11,7 +11,6 @@ use Rattle.little.specs.Same.{sameBytes}
 use Rattle.units.specs.declared.BytePlace.{BytePlace}
 use Rattle.units.specs.declared.Donation.{Donation}
 use Rattle.units.specs.declared.Frames.{Frames}
-use Rattle.units.specs.declared.Refusal.{Refusal}
 use Rattle.units.specs.declared.Refusal.the-variants.{SongEmptyOrDifferent, AlreadyListed}
 use Rattle.units.specs.declared.Verdict.{Verdict}
 use Rattle.units.specs.declared.Verdict.the-variants as verdict
@@ -23,19 +22,26 @@ use Rattle.writer.specs.File.{sizeOf, fileOf, writing, writtenNumber}
 use Rattle.side.specs.declared.Added.{Added}
 use Rattle.side.specs.declared.Added.the-variants.{Bytes, Refused}
 use Rattle.side.specs.Side.{Song, isSideFile, songsIn, isListed, listedSound}
-use Rattle.side.specs.Adding.{suits, newFile, adding, holding, addedNumber, emptySide}
+use Rattle.side.specs.Adding.{suits, newFile, adding, addedNumber, emptySide}
 
--- ---- a song as it is sent: its file, and the number that it was donated under
+-- ---- a song as it is sent: its file, the number that it was donated under, the limit of the side's frames, and the room of the
+-- buffer that is lent for it
 pub record Sent : Type 0 where
   pub file : List ℕ
   pub number : Donation
+  pub limit : Frames
+  pub room : ℕ
 
--- a file of bytes, and a number of 32 bits
+-- a file of bytes, and a number and a limit of 32 bits
 pub record Bytewise (x : Sent) : Type 0 where
   pub file : T (areBytes (x .file))
   pub number : x .number .0 < 4294967296
+  pub limit : x .limit .0 < 4294967296
 
--- the file that adding it to a side file s makes
+-- the answer of adding it to a side file s, and the file that this makes
+abbrev pub answerTo : List ℕ → Sent → Added
+answerTo s x = adding s (x .file) (x .number) (x .limit) (x .room)
+
 abbrev pub fileWith : List ℕ → Sent → List ℕ
 fileWith s x = newFile s (x .file) (x .number)
 
@@ -52,12 +58,11 @@ songFrom at x =
 
 -- ---- where a song is added
 
--- adding x to a side file s gives a new file of n bytes; the limit is a number of 32 bits
-pub record Adds (s : List ℕ) (x : Sent) (limit : Frames) (room : ℕ) (n : BytePlace) : Type 0 where
+-- adding x to a side file s gives a new file of n bytes
+pub record Adds (s : List ℕ) (x : Sent) (n : BytePlace) : Type 0 where
   pub bytes : T (areBytes s)
   pub sent : Bytewise x
-  pub fits : limit .0 < 4294967296
-  pub answer : adding s (x .file) (x .number) limit room ≡ Bytes n
+  pub answer : answerTo s x ≡ Bytes n
 
 -- the file that adding x to a side file s makes, n bytes long: a side of the same format, whose running order is the old one with
 -- one song more at the end; so every old song keeps its number, position, place, length and its sound, byte for byte
@@ -71,7 +76,7 @@ pub record Grown (s : List ℕ) (x : Sent) (n : BytePlace) : Type 0 where
   pub sound : soundIn (fileWith s x) ≡ soundIn s ++ soundIn (x .file)
 
 unfoldable pub Grows : Type 0
-Grows = (s : List ℕ) (x : Sent) (limit : Frames) (room : ℕ) (n : BytePlace) → Adds s x limit room n → Grown s x n
+Grows = (s : List ℕ) (x : Sent) (n : BytePlace) → Adds s x n → Grown s x n
 
 -- how long the file of a side with songs is: 68 bytes for the first twelve, the format, the heads of the chunks and the two counts,
 -- 36 for the cue and the entry of each song, and the sound
@@ -79,43 +84,34 @@ abbrev pub sideSize : Format → ℕ → ℕ → ℕ
 sideSize f songs frames = 68 + 36 * songs + f .align * frames
 
 -- and it is within the limits
-pub record Limited (s : List ℕ) (x : Sent) (limit : Frames) : Type 0 where
+pub record Limited (s : List ℕ) (x : Sent) : Type 0 where
   pub songs : length (songsIn (fileWith s x)) ≤ 64
-  pub frames : fileFrames (fileWith s x) ≤ limit .0
+  pub frames : fileFrames (fileWith s x) ≤ x .limit .0
   pub size : length (fileWith s x) ≡ sideSize (fileFormat s) (length (songsIn s) + 1) (fileFrames s + fileFrames (x .file))
   pub most : length (fileWith s x) ≤ fileLimit
 
 unfoldable pub StaysWithin : Type 0
-StaysWithin = (s : List ℕ) (x : Sent) (limit : Frames) (room : ℕ) (n : BytePlace) → Adds s x limit room n → Limited s x limit
+StaysWithin = (s : List ℕ) (x : Sent) (n : BytePlace) → Adds s x n → Limited s x
 
--- ---- a listed number, whatever limit and room: 18 with the same sound, 16 with other sound
+-- ---- a listed number, whatever limit and room
 
-pub record Listed (s t : List ℕ) (number : Donation) (limit : Frames) (room : ℕ) : Type 0 where
-  pub same : soundIn t ≡ listedSound number (songsIn s) → adding s t number limit room ≡ Refused AlreadyListed
-  pub other : (soundIn t ≡ listedSound number (songsIn s) → ⊥) → adding s t number limit room ≡ Refused SongEmptyOrDifferent
+-- the answer to x, whose number a side file s lists with some sound: 18 with the same sound, 16 with other sound
+pub record Listed (sound s : List ℕ) (x : Sent) : Type 0 where
+  pub same : soundIn (x .file) ≡ sound → answerTo s x ≡ Refused AlreadyListed
+  pub other : (soundIn (x .file) ≡ sound → ⊥) → answerTo s x ≡ Refused SongEmptyOrDifferent
 
 unfoldable pub OnceListed : Type 0
 OnceListed =
-    (s t : List ℕ) (number : Donation) (limit : Frames) (room : ℕ)
-    → isSideFile s ≡ true → isListed number (songsIn s) ≡ true
-    → reading t .verdict ≡ verdict.Accepted → suits (fileFormat s) (fileFormat t) ≡ true → Listed s t number limit room
+    (s : List ℕ) (x : Sent) → isSideFile s ≡ true → isListed (x .number) (songsIn s) ≡ true
+    → reading (x .file) .verdict ≡ verdict.Accepted → suits (fileFormat s) (fileFormat (x .file)) ≡ true
+    → Listed (listedSound (x .number) (songsIn s)) s x
 
--- so it is of the file that adding x made, for every song file t sent under the same number afterwards
-pub record Known (s : List ℕ) (x : Sent) (t : List ℕ) (limit : Frames) (room : ℕ) : Type 0 where
-  pub same : soundIn t ≡ soundIn (x .file) → adding (fileWith s x) t (x .number) limit room ≡ Refused AlreadyListed
-  pub other : (soundIn t ≡ soundIn (x .file) → ⊥) → adding (fileWith s x) t (x .number) limit room ≡ Refused SongEmptyOrDifferent
-
+-- so it is of the file that adding x made, for every song y that is sent under the same number next
 unfoldable pub AddedAgain : Type 0
 AddedAgain =
-    (s : List ℕ) (x : Sent) (limit : Frames) (room : ℕ) (n : BytePlace) → Adds s x limit room n
-    → (t : List ℕ) (later : Frames) (lent : ℕ) → reading t .verdict ≡ verdict.Accepted → suits (fileFormat s) (fileFormat t) ≡ true
-    → Known s x t later lent
-
--- ---- a refused add leaves everything as it was
-unfoldable pub LeavesAll : Type 0
-LeavesAll =
-    (s t : List ℕ) (number : Donation) (limit : Frames) (r : Refusal) (d : List ℕ) → adding s t number limit (length d) ≡ Refused r
-    → holding (adding s t number limit (length d)) (newFile s t number) d ≡ d
+    (s : List ℕ) (x y : Sent) (n : BytePlace) → Adds s x n → y .number ≡ x .number
+    → reading (y .file) .verdict ≡ verdict.Accepted → suits (fileFormat s) (fileFormat (y .file)) ≡ true
+    → Listed (soundIn (x .file)) (fileWith s x) y
 
 -- ---- songs sent one after the other, each added to the file that the one before made; where it is refused, that file stays
 
@@ -123,18 +119,14 @@ abbrev pub sideAfter : Added → List ℕ → List ℕ → List ℕ
 sideAfter (Bytes n) old new = new
 sideAfter (Refused r) old new = old
 
-unfoldable pub addAll : Frames → ℕ → List ℕ → List Sent → List ℕ
-addAll limit room s [] = s
-addAll limit room s (x ∷ xs) = addAll limit room (sideAfter (adding s (x .file) (x .number) limit room) s (fileWith s x)) xs
+unfoldable pub addAll : List ℕ → List Sent → List ℕ
+addAll s [] = s
+addAll s (x ∷ xs) = addAll (sideAfter (answerTo s x) s (fileWith s x)) xs
 
 -- the songs sent, in that order, one behind the other from a frame on
 unfoldable pub inRow : ℕ → List Sent → List Song
 inRow at [] = []
 inRow at (x ∷ xs) = songFrom at x ∷ inRow (at + fileFrames (x .file)) xs
-
-unfoldable pub framesSent : List Sent → ℕ
-framesSent [] = 0
-framesSent (x ∷ xs) = fileFrames (x .file) + framesSent xs
 
 -- a song that a side of some format can take: its file is taken, it suits the side, and it has frames
 pub record Suitable (f : Format) (x : Sent) : Type 0 where
@@ -157,13 +149,18 @@ unfoldable pub OnceEach : List Sent → Type 0
 OnceEach [] = Unit {0}
 OnceEach (x ∷ xs) = (isSent (x .number) xs ≡ false) × OnceEach xs
 
--- within the limits: 64 songs, the frames, and the bytes of the last file, which is the longest
-pub record WithinLimits (f : Format) (xs : List Sent) (limit : Frames) (room : ℕ) : Type 0 where
-  pub songs : length xs ≤ 64
-  pub frames : framesSent xs ≤ limit .0
-  pub fits : limit .0 < 4294967296
-  pub size : sideSize f (length xs) (framesSent xs) ≤ fileLimit
-  pub lent : sideSize f (length xs) (framesSent xs) ≤ room
+-- there is place for x behind n songs that end at a frame: with it there are 64 songs at most, as many frames as its own limit lets
+-- on, and as many bytes as the limit of files and its own room let be
+pub record Placed (f : Format) (n at : ℕ) (x : Sent) : Type 0 where
+  pub songs : n < 64
+  pub frames : at + fileFrames (x .file) ≤ x .limit .0
+  pub size : sideSize f (n + 1) (at + fileFrames (x .file)) ≤ fileLimit
+  pub lent : sideSize f (n + 1) (at + fileFrames (x .file)) ≤ x .room
+
+-- so it is for each, behind those before it
+unfoldable pub AllPlaced : Format → ℕ → ℕ → List Sent → Type 0
+AllPlaced f n at [] = Unit {0}
+AllPlaced f n at (x ∷ xs) = Placed f n at x × AllPlaced f (n + 1) (at + fileFrames (x .file)) xs
 
 -- an empty side s then has exactly those songs, in that order
 pub record Complete (s t : List ℕ) (xs : List Sent) : Type 0 where
@@ -173,9 +170,8 @@ pub record Complete (s t : List ℕ) (xs : List Sent) : Type 0 where
 
 unfoldable pub AllAdded : Type 0
 AllAdded =
-    (s : List ℕ) (xs : List Sent) (limit : Frames) (room : ℕ) → T (areBytes s) → isSideFile s ≡ true → songsIn s ≡ []
-    → AllSuitable (fileFormat s) xs → OnceEach xs → WithinLimits (fileFormat s) xs limit room
-    → Complete s (addAll limit room s xs) xs
+    (s : List ℕ) (xs : List Sent) → T (areBytes s) → isSideFile s ≡ true → songsIn s ≡ []
+    → AllSuitable (fileFormat s) xs → OnceEach xs → AllPlaced (fileFormat s) 0 0 xs → Complete s (addAll s xs) xs
 
 -- whatever is sent, however often and in whatever order: the songs that a side s has stay on it, first, in order and unchanged
 pub record Keeps (s t : List ℕ) : Type 0 where
@@ -189,22 +185,25 @@ AllBytewise [] = Unit {0}
 AllBytewise (x ∷ xs) = Bytewise x × AllBytewise xs
 
 unfoldable pub NoneLost : Type 0
-NoneLost =
-    (xs : List Sent) (s : List ℕ) (limit : Frames) (room : ℕ) → T (areBytes s) → isSideFile s ≡ true → AllBytewise xs
-    → limit .0 < 4294967296 → Keeps s (addAll limit room s xs)
+NoneLost = (xs : List Sent) (s : List ℕ) → T (areBytes s) → isSideFile s ≡ true → AllBytewise xs → Keeps s (addAll s xs)
 
--- a song that is on the side and arrives once more changes nothing, whatever was sent in between
+-- so a number that a side lists is told 18 or 16 by the sound that it had then, whatever was sent in between
+unfoldable pub StillListed : Type 0
+StillListed =
+    (s : List ℕ) (xs : List Sent) (y : Sent) → T (areBytes s) → isSideFile s ≡ true → isListed (y .number) (songsIn s) ≡ true
+    → AllBytewise xs → reading (y .file) .verdict ≡ verdict.Accepted → suits (fileFormat s) (fileFormat (y .file)) ≡ true
+    → Listed (listedSound (y .number) (songsIn s)) (addAll s xs) y
+
+-- and it changes nothing, whatever its file
 unfoldable pub SentAgain : Type 0
 SentAgain =
-    (s : List ℕ) (x : Sent) (xs : List Sent) (limit : Frames) (room : ℕ) → T (areBytes s) → isSideFile s ≡ true
-    → isListed (x .number) (songsIn s) ≡ true → AllBytewise xs → limit .0 < 4294967296
-    → addAll limit room s (xs ++ (x ∷ [])) ≡ addAll limit room s xs
+    (s : List ℕ) (xs : List Sent) (y : Sent) → T (areBytes s) → isSideFile s ≡ true → isListed (y .number) (songsIn s) ≡ true
+    → AllBytewise xs → addAll s (xs ++ (y ∷ [])) ≡ addAll s xs
 
 -- twice in a row is as once, whether the song is added or refused
 unfoldable pub SentTwice : Type 0
 SentTwice =
-    (s : List ℕ) (x : Sent) (xs : List Sent) (limit : Frames) (room : ℕ) → T (areBytes s) → Bytewise x → limit .0 < 4294967296
-    → addAll limit room s (x ∷ x ∷ xs) ≡ addAll limit room s (x ∷ xs)
+    (s : List ℕ) (x : Sent) (xs : List Sent) → T (areBytes s) → Bytewise x → addAll s (x ∷ x ∷ xs) ≡ addAll s (x ∷ xs)
 
 -- ---- an empty side that is written is one: a side of those channels and that rate, without a song
 pub record IsEmptySide (s : List ℕ) (channels rate : ℕ) : Type 0 where
