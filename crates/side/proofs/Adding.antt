@@ -6,8 +6,7 @@ use Prim.Native.Nat.{ℕ, _+_, _*_, _≤_, _<_}
 use native.Mathlib.Omega.{arith}
 use mir.Syntax.{w32}
 use mir.Val.{Fits}
-use Rattle.little.specs.Writing.{front}
-use Rattle.units.specs.declared.BytePlace.{BytePlace}
+use Rattle.little.specs.Writing.{holding}
 use Rattle.units.specs.declared.Donation.{Donation}
 use Rattle.units.specs.declared.Frames.{Frames}
 use Rattle.units.specs.declared.Refusal.{Refusal}
@@ -29,33 +28,23 @@ use Rattle.reader.specs.Demands.{Refusing}
 use Rattle.reader.proofs.Demands.{sound-placed, refusing}
 use Rattle.reader.proofs.Kept.{content-taken, content-rules}
 use Rattle.writer.specs.declared.Written.{Written}
-use Rattle.writer.specs.declared.Written.the-variants as written
-use Rattle.writer.specs.File as file
-use Rattle.writer.specs.File.{fileOf, writing}
+use Rattle.writer.specs.declared.Written.the-variants.{Refused}
+use Rattle.writer.specs.File.{fileOf, writing, writtenVerdict}
 use Rattle.writer.proofs.Settling.{format-refused}
-use Rattle.side.specs.declared.Added.{Added}
-use Rattle.side.specs.declared.Added.the-variants.{Bytes, Refused}
 use Rattle.side.specs.Side.{isSide}
-use Rattle.side.specs.Adding.{addVerdict, withSong, newFile, told, addedBy, adding, holding, emptySide}
+use Rattle.side.specs.Adding.{addVerdict, withSong, newFile, addedBy, adding, emptySide}
 use Rattle.side.proofs.Songs.{side-says}
 use Rattle.side.proofs.Answers.{Met, verdict-says, place-says}
 
--- ---- what writing answers
-module _ (m : Record) (w : List ℕ) (room : ℕ) {g : Record} (made : g ≡ m) {x : Written} (e : x ≡ writing g w room) where
-  pub told-bytes : {n : BytePlace} → x ≡ written.Bytes n → Bytes n ≡ told (writing m w room)
-  told-bytes f = ap told (sym f ∙ e ∙ ap (λ (r : Record). writing r w room) made)
+-- ---- a record that is made, and then written
+module _ {g m : Record} (e : g ≡ m) (x : Written) (w : List ℕ) where
+  pub made-written : (room : ℕ) → x ≡ writing g w room → x ≡ writing m w room
+  made-written room f = f ∙ ap (λ (r : Record). writing r w room) e
 
-  pub told-refused : {r : Refusal} → x ≡ written.Refused r → Refused r ≡ told (writing m w room)
-  told-refused f = ap told (sym f ∙ e ∙ ap (λ (r : Record). writing r w room) made)
+  pub made-held : (d : List ℕ) {z : List ℕ} → z ≡ holding (writtenVerdict x) (fileOf g w) d → z ≡ holding (writtenVerdict x) (fileOf m w) d
+  made-held d f = f ∙ ap (λ (r : Record). holding (writtenVerdict x) (fileOf r w) d) e
 
-module _ (m : Record) (w d : List ℕ) {g : Record} (made : g ≡ m) {x : Written} {z : List ℕ} (h : z ≡ file.holding x (fileOf g w) d) where
-  pub held-bytes : {n : BytePlace} → x ≡ written.Bytes n → z ≡ front (fileOf m w) d
-  held-bytes f = h ∙ ap (λ (y : Written). file.holding y (fileOf g w) d) f ∙ ap (λ (r : Record). front (fileOf r w) d) made
-
-  pub held-refused : {r : Refusal} → x ≡ written.Refused r → z ≡ d
-  held-refused f = h ∙ ap (λ (y : Written). file.holding y (fileOf g w) d) f
-
-pub ruleset joining = (told-bytes, told-refused, held-bytes, held-refused)
+pub ruleset making = (made-written, made-held)
 
 -- ---- two files that were read
 module _ (side : Reading) (w : List ℕ) (song : Reading) (v : List ℕ) (number : Donation) (limit : Frames) {x : Verdict}
@@ -63,7 +52,7 @@ module _ (side : Reading) (w : List ℕ) (song : Reading) (v : List ℕ) (number
   pub answer-refused : {r : Refusal} (y : Written) → x ≡ verdict.Refused r → Refused r ≡ addedBy (addVerdict side w song v number limit) y
   answer-refused y f = ap (λ (z : Verdict). addedBy z y) (sym f ∙ e)
 
-  pub answer-joined : (y : Written) {r : Added} → x ≡ verdict.Accepted → r ≡ told y → r ≡ addedBy (addVerdict side w song v number limit) y
+  pub answer-joined : (y : Written) {r : Written} → x ≡ verdict.Accepted → r ≡ y → r ≡ addedBy (addVerdict side w song v number limit) y
   answer-joined y f g = g ∙ ap (λ (z : Verdict). addedBy z y) (sym f ∙ e)
 
   -- ---- the song has place
@@ -85,16 +74,16 @@ pub ruleset reading-added = (answer-refused, answer-joined, side-stands, few-cue
 -- ---- the files
 module _ (s t : List ℕ) (number : Donation) (limit : Frames) {side song : Reading} {w v : List ℕ}
     (a : side ≡ reading s) (b : w ≡ soundIn s) (c : song ≡ reading t) (d : v ≡ soundIn t) where
-  pub added : (room : ℕ) {r : Added}
+  pub added : (room : ℕ) {r : Written}
       → r ≡ addedBy (addVerdict side w song v number limit) (writing (withSong (side .made) number (song .made .frames)) (w ++ v) room)
       → r ≡ adding s t number limit room
   unfolding adding
   added room e = e ∙ (λ i. addedBy (addVerdict (a i) (b i) (c i) (d i) number limit) (writing (withSong (a i .made) number (c i .made .frames)) (b i ++ d i) room))
 
-  pub new-held : (r : Added) (old : List ℕ) {z : List ℕ} → z ≡ holding r (fileOf (withSong (side .made) number (song .made .frames)) (w ++ v)) old
-      → z ≡ holding r (newFile s t number) old
+  pub new-held : (r : Written) (old : List ℕ) {z : List ℕ} → z ≡ holding (writtenVerdict r) (fileOf (withSong (side .made) number (song .made .frames)) (w ++ v)) old
+      → z ≡ holding (writtenVerdict r) (newFile s t number) old
   unfolding newFile
-  new-held r old e = e ∙ (λ i. holding r (fileOf (withSong (a i .made) number (c i .made .frames)) (b i ++ d i)) old)
+  new-held r old e = e ∙ (λ i. holding (writtenVerdict r) (fileOf (withSong (a i .made) number (c i .made .frames)) (b i ++ d i)) old)
 
 -- no file that is read has more than 64 cues or entries
 read-few : (s : List ℕ) → (reading s .made .cues .count ≤ 64) × (reading s .made .playlist .count ≤ 64)
@@ -130,19 +119,12 @@ unfolding emptySide
 empty-record channels rate e f = simp (e, f)
 
 module _ (channels rate room : ℕ) where
-  pub empty-channels : 2 < channels → written.Refused FormatWrong ≡ writing (emptySide channels rate) [] room
+  pub empty-channels : 2 < channels → Refused FormatWrong ≡ writing (emptySide channels rate) [] room
   unfolding emptySide
   empty-channels h = by (formatRule (emptySide channels rate .format)) refl
     where
-      by : (b : Bool) → formatRule (emptySide channels rate .format) ≡ b → written.Refused FormatWrong ≡ writing (emptySide channels rate) [] room
+      by : (b : Bool) → formatRule (emptySide channels rate .format) ≡ b → Refused FormatWrong ≡ writing (emptySide channels rate) [] room
       by true e = absurd (omega (arith, taken-two (emptySide channels rate .format) e))
       by false e = sym (format-refused (emptySide channels rate) [] room e)
 
-  pub empty-written : {m : Record} {r : Written} → m ≡ emptySide channels rate → r ≡ writing m [] room → r ≡ writing (emptySide channels rate) [] room
-  empty-written e f = f ∙ ap (λ (m : Record). writing m [] room) e
-
-pub empty-held : (channels rate : ℕ) (r : Written) (d : List ℕ) {m : Record} {z : List ℕ} → m ≡ emptySide channels rate → z ≡ file.holding r (fileOf m []) d
-    → z ≡ file.holding r (fileOf (emptySide channels rate) []) d
-empty-held channels rate r d e f = f ∙ ap (λ (m : Record). file.holding r (fileOf m []) d) e
-
-pub ruleset emptying = (empty-record, empty-channels, empty-written, empty-held)
+pub ruleset emptying = (empty-record, empty-channels, made-written, made-held)

@@ -21,13 +21,12 @@ use Rattle.rules.specs.declared.Record.{Record}
 use Rattle.rules.specs.declared.Reading.{Reading}
 use Rattle.reader.specs.Content.{reading, soundIn, fileFormat, fileFrames}
 use Rattle.writer.specs.declared.Written.{Written}
-use Rattle.writer.specs.declared.Written.the-variants as written
+use Rattle.writer.specs.declared.Written.the-variants.{Bytes, Refused}
 use Rattle.writer.specs.File.{writing}
 use Rattle.writer.proofs.Settling.{and-met}
-use Rattle.side.specs.declared.Added.the-variants.{Bytes, Refused}
 use Rattle.side.specs.Side.{sideRead, songsHeld, isSideFile, songsIn, isListed, listedSound}
 use Rattle.side.specs.Demands.{Sent, answerTo}
-use Rattle.side.specs.Adding.{suits, onceMore, hasPlace, placeVerdict, addVerdict, newRecord, newSound, told, addedBy, adding}
+use Rattle.side.specs.Adding.{suits, onceMore, hasPlace, placeVerdict, addVerdict, newRecord, newSound, addedBy, adding}
 
 -- ---- each demand of the verdict is met, of two files as they were read
 pub record Met (x : Reading) (w : List ℕ) (y : Reading) (number : Donation) (limit : Frames) : Type 0 where
@@ -118,16 +117,16 @@ module _ (s : List ℕ) (x : Sent) where
   abbrev pub writes : Written
   writes = writing (newRecord s (x .file) (x .number)) (newSound s (x .file)) (x .room)
 
-  pub added-says : (n : BytePlace) → answerTo s x ≡ Bytes n → Taking s x × (writes ≡ written.Bytes n)
+  pub added-says : (n : BytePlace) → answerTo s x ≡ Bytes n → Taking s x × (writes ≡ Bytes n)
   unfolding adding
   added-says n e = let p = by judged writes e in (judged-says (p .0), p .1)
     where
-      by : (v : Verdict) (w : Written) → addedBy v w ≡ Bytes n → (v ≡ verdict.Accepted) × (w ≡ written.Bytes n)
-      by verdict.Accepted (written.Bytes k) h = (refl, cc)
-      by verdict.Accepted (written.Refused r) h = let z : _≡_ {A = ℕ} 0 1 = cc in absurd (omega arith)
+      by : (v : Verdict) (w : Written) → addedBy v w ≡ Bytes n → (v ≡ verdict.Accepted) × (w ≡ Bytes n)
+      by verdict.Accepted (Bytes k) h = (refl, cc)
+      by verdict.Accepted (Refused r) h = let z : _≡_ {A = ℕ} 0 1 = cc in absurd (omega arith)
       by (verdict.Refused r) w h = let z : _≡_ {A = ℕ} 0 1 = cc in absurd (omega arith)
 
-  pub taking-added : Taking s x → answerTo s x ≡ told writes
+  pub taking-added : Taking s x → answerTo s x ≡ writes
   unfolding adding
   taking-added k = ap (λ (v : Verdict). addedBy v writes) (judged-taken k)
 

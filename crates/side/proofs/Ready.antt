@@ -9,11 +9,11 @@ use lib.ListN.{length}
 use lib.Pow.{areBytes}
 use borrow.Author.Tests.{eqb-false, ne-eqb}
 use Rattle.formats.specs.declared.Format.{Format}
+use Rattle.writer.specs.declared.Written.the-variants.{Bytes}
 use Rattle.writer.specs.File.{sizeOf}
 use Rattle.writer.proofs.Demands.{accepted}
-use Rattle.side.specs.declared.Added.the-variants.{Bytes}
 use Rattle.side.specs.Side.{Song, isSideFile, songsIn, isListed}
-use Rattle.side.specs.Adding.{newRecord, newSound, newFile, told}
+use Rattle.side.specs.Adding.{newRecord, newSound, newFile}
 use Rattle.side.specs.Demands.{Sent, answerTo, fileWith, songFrom, Grown, Grows, AllSuitable, isSent, OnceEach, AllPlaced}
 use Rattle.side.proofs.Growing.{songs-count}
 use Rattle.side.proofs.Answers.{Taking, taking-added}
@@ -79,9 +79,8 @@ module _ (s : List ℕ) (x : Sent) (xs : List Sent) (k : Ready s (x ∷ xs)) whe
       let l = new-long h in
       let p = k .placed .0 in
       taking-added s x h
-      ∙ ap told
-      (accepted (newRecord s (x .file) (x .number)) (newSound s (x .file)) (x .room) (new-rules h)
-      (omega (arith, p .size)) (omega (arith, p .lent)))
+      ∙ accepted (newRecord s (x .file) (x .number)) (newSound s (x .file)) (x .room) (new-rules h)
+      (omega (arith, p .size)) (omega (arith, p .lent))
 
   pub first-grown : Grown s x (sizeOf new)
   unfolding Grows AllSuitable

@@ -21,12 +21,11 @@ use Rattle.rules.specs.declared.Record.{Record}
 use Rattle.rules.specs.Rules.{Writable}
 use Rattle.reader.specs.Content.{reading, soundIn, fileFormat, fileFrames}
 use Rattle.writer.specs.declared.Written.{Written}
-use Rattle.writer.specs.declared.Written.the-variants as written
 use Rattle.writer.specs.File.{sizeOf, fileOf, andThen, writing, writtenNumber}
 use Rattle.writer.specs.Demands as below
 use Rattle.writer.proofs.Demands as below-proofs
 use Rattle.side.specs.Side.{isSideFile, songsIn, isListed, listedSound}
-use Rattle.side.specs.Adding.{suits, onceMore, hasPlace, placeVerdict, addVerdict, newRecord, newSound, newFile, told, addedBy, adding, addedNumber}
+use Rattle.side.specs.Adding.{suits, onceMore, hasPlace, placeVerdict, addVerdict, newRecord, newSound, newFile, addedBy, adding}
 use Rattle.side.specs.Demands.{Sent, orElse, AddNumbered}
 use Rattle.side.proofs.Growing.{songs-count}
 use Rattle.side.proofs.Answers.{Taking, place, taking, writes}
@@ -58,34 +57,30 @@ not-some n =
 
 -- ---- a row: what comes after a demand may take it as met
 module _ (w : Written) where
-  first-row : (u v : Verdict) (n : ℕ) → (u ≡ verdict.Accepted → addedNumber (addedBy v w) ≡ n)
-      → addedNumber (addedBy (andThen u v) w) ≡ orElse u n
+  first-row : (u v : Verdict) (n : ℕ) → (u ≡ verdict.Accepted → writtenNumber (addedBy v w) ≡ n)
+      → writtenNumber (addedBy (andThen u v) w) ≡ orElse u n
   first-row verdict.Accepted v n f = f refl
   first-row (verdict.Refused r) v n f = refl
 
-  row : (b : Bool) (r : Refusal) (v : Verdict) (n : ℕ) → (b ≡ true → addedNumber (addedBy v w) ≡ n)
-      → addedNumber (addedBy (demand b r v) w) ≡ cond (not b) (numberOf r) n
+  row : (b : Bool) (r : Refusal) (v : Verdict) (n : ℕ) → (b ≡ true → writtenNumber (addedBy v w) ≡ n)
+      → writtenNumber (addedBy (demand b r v) w) ≡ cond (not b) (numberOf r) n
   row true r v n f = f refl
   row false r v n f = refl
 
-  listed-row : (b q : Bool) (v : Verdict) (n : ℕ) → (b ≡ false → addedNumber (addedBy v w) ≡ n)
-      → addedNumber (addedBy (cond b (verdict.Refused (cond q AlreadyListed SongEmptyOrDifferent)) v) w) ≡ cond b (cond q 18 16) n
+  listed-row : (b q : Bool) (v : Verdict) (n : ℕ) → (b ≡ false → writtenNumber (addedBy v w) ≡ n)
+      → writtenNumber (addedBy (cond b (verdict.Refused (cond q AlreadyListed SongEmptyOrDifferent)) v) w) ≡ cond b (cond q 18 16) n
   listed-row true true v n f = refl
   listed-row true false v n f = refl
   listed-row false q v n f = f refl
 
 -- ---- writing
-told-row : (w : Written) → addedNumber (told w) ≡ writtenNumber w
-told-row (written.Bytes n) = refl
-told-row (written.Refused r) = refl
-
 written-row : (m : Record) (w : List ℕ) (room : ℕ) → Writable m (sizeOf w)
-    → addedNumber (told (writing m w room))
+    → writtenNumber (writing m w room)
     ≡ cond (ltb fileLimit (length (fileOf m w))) 1 (cond (ltb room (length (fileOf m w))) 14 0)
 unfolding below.WriteNumbered
 written-row m w room k =
     let e = below-proofs.numbered m w room in
-    told-row (writing m w room) ∙ e ∙ simp (k .format, k .whole, k .count, k .cues, k .plays, not-leb)
+    e ∙ simp (k .format, k .whole, k .count, k .cues, k .plays, not-leb)
 
 -- ---- the table
 module _ (s t : List ℕ) (number : Donation) (limit : Frames) (room : ℕ) where
@@ -114,7 +109,7 @@ module _ (s t : List ℕ) (number : Donation) (limit : Frames) (room : ℕ) wher
   fromListed =
       cond (isListed number (songsIn s)) (cond (sameBytes (listedSound number (songsIn s)) (soundIn t)) 18 16) fromPlace
 
-  size-row : Taking s sent → addedNumber (told (writes s sent)) ≡ fromSize
+  size-row : Taking s sent → writtenNumber (writes s sent) ≡ fromSize
   unfolding newFile
   size-row k = written-row (newRecord s t number) (newSound s t) room (new-rules k)
 

@@ -8,8 +8,8 @@ use lib.ListN.{length, take}
 use lib.Pow.{areBytes}
 use borrow.Author.Tests.{eqb-true}
 use Rattle.rules.specs.declared.Record.{Record}
-use Rattle.side.specs.declared.Added.{Added}
-use Rattle.side.specs.declared.Added.the-variants.{Bytes, Refused}
+use Rattle.writer.specs.declared.Written.{Written}
+use Rattle.writer.specs.declared.Written.the-variants.{Bytes, Refused}
 use Rattle.side.specs.Side.{Song, cueList, playList, tiled, songsHeld, isSideFile, songsIn, isListed, listedSound}
 use Rattle.side.specs.Demands.{Sent, answerTo, fileWith, songFrom, sideAfter, addAll, inRow, Grown, Grows, AllPlaced, AllBytewise, Keeps, NoneLost, AllAdded, StillListed, SentAgain, SentTwice}
 use Rattle.side.proofs.Songs.{side-tiled}
@@ -22,16 +22,16 @@ use Rattle.side.proofs.Ready.{NoneListed, none-first, Ready, first-writ
 use Rattle.reader.specs.Content.{fileFormat, fileFrames}
 
 -- ---- the first of a list, by its answer
-first-answered : (s : List ℕ) (x : Sent) (xs : List Sent) {a : Added} → answerTo s x ≡ a
+first-answered : (s : List ℕ) (x : Sent) (xs : List Sent) {a : Written} → answerTo s x ≡ a
     → addAll s (x ∷ xs) ≡ addAll (sideAfter a s (fileWith s x)) xs
 unfolding addAll
-first-answered s x xs e = ap (λ (a : Added). addAll (sideAfter a s (fileWith s x)) xs) e
+first-answered s x xs e = ap (λ (a : Written). addAll (sideAfter a s (fileWith s x)) xs) e
 
 -- a number that is listed is refused, so the side stays
 listed-stays : (s : List ℕ) (x : Sent) (xs : List Sent) → isListed (x .number) (songsIn s) ≡ true → addAll s (x ∷ xs) ≡ addAll s xs
 listed-stays s x xs e = by (answerTo s x) refl
   where
-    by : (a : Added) → answerTo s x ≡ a → addAll s (x ∷ xs) ≡ addAll s xs
+    by : (a : Written) → answerTo s x ≡ a → addAll s (x ∷ xs) ≡ addAll s xs
     by (Bytes n) h = absurd (subst T (sym e ∙ added-says s x n h .0 .fresh) tt)
     by (Refused r) h = first-answered s x xs h
 
@@ -39,7 +39,7 @@ pub sent-twice : SentTwice
 unfolding SentTwice
 sent-twice s x xs b y = by (answerTo s x) refl
   where
-    by : (a : Added) → answerTo s x ≡ a → addAll s (x ∷ x ∷ xs) ≡ addAll s (x ∷ xs)
+    by : (a : Written) → answerTo s x ≡ a → addAll s (x ∷ x ∷ xs) ≡ addAll s (x ∷ xs)
     by (Refused r) e = first-answered s x (x ∷ xs) e
     by (Bytes n) e =
         first-answered s x (x ∷ xs) e
@@ -52,7 +52,7 @@ unfolding NoneLost AllBytewise addAll Grows
 none-lost [] s b e y = record { side = e; format = refl; more = []; songs = sym (append-nil (songsIn s)) }
 none-lost (x ∷ xs) s b e y = by (answerTo s x) refl (λ t c f. none-lost xs t c f (y .1))
   where
-    by : (a : Added) → answerTo s x ≡ a
+    by : (a : Written) → answerTo s x ≡ a
         → ((t : List ℕ) → T (areBytes t) → isSideFile t ≡ true → Keeps t (addAll t xs))
         → Keeps s (addAll (sideAfter a s (fileWith s x)) xs)
     by (Bytes n) h next =

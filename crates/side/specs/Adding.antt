@@ -1,16 +1,15 @@
--- Adding a song to a side: the verdict, the file, and what the lent buffer then holds. Assumes nothing.
+-- Adding a song to a side: the verdict, the file, and the answer. Assumes nothing.
 use Prim.Native.Nat.{ℕ, _+_, _*_}
 use mathlib.Core.Bool.{Bool, cond, _&&_}
 use mathlib.Core.List.{List, _++_}
 use lib.Dec.{eqb, ltb, leb}
 use Rattle.little.specs.Same.{sameBytes}
-use Rattle.little.specs.Writing.{front}
 use Rattle.units.specs.declared.Donation.{Donation}
 use Rattle.units.specs.declared.Frames.{Frames}
 use Rattle.units.specs.declared.Refusal.the-variants.{FormatWrong, SongEmptyOrDifferent, NoPlaceOnSide, AlreadyListed, NotASide}
 use Rattle.units.specs.declared.Verdict.{Verdict}
 use Rattle.units.specs.declared.Verdict.the-variants as verdict
-use Rattle.units.specs.Refusals.{numberOf, demand}
+use Rattle.units.specs.Refusals.{demand}
 use Rattle.formats.specs.declared.Format.{Format}
 use Rattle.tables.specs.Cues.{noCues}
 use Rattle.tables.specs.Plays.{noPlays}
@@ -19,10 +18,8 @@ use Rattle.rules.specs.declared.Record.{Record}
 use Rattle.rules.specs.declared.Reading.{Reading}
 use Rattle.reader.specs.Content.{reading, soundIn}
 use Rattle.writer.specs.declared.Written.{Written}
-use Rattle.writer.specs.declared.Written.the-variants as written
+use Rattle.writer.specs.declared.Written.the-variants.{Refused}
 use Rattle.writer.specs.File.{andThen, fileOf, writing}
-use Rattle.side.specs.declared.Added.{Added}
-use Rattle.side.specs.declared.Added.the-variants.{Bytes, Refused}
 use Rattle.side.specs.Side.{sixteenBit, sideRead, songsHeld, isListed, listedSound}
 
 -- ---- the verdict
@@ -80,31 +77,16 @@ newFile s t number = fileOf (newRecord s t number) (newSound s t)
 
 -- ---- the answer, with room for so many bytes
 
--- writing's answer, told as adding's
-abbrev pub told : Written → Added
-told (written.Bytes n) = Bytes n
-told (written.Refused r) = Refused r
-
 -- the verdict's refusal, or else writing's answer
-abbrev pub addedBy : Verdict → Written → Added
-addedBy verdict.Accepted x = told x
+abbrev pub addedBy : Verdict → Written → Written
+addedBy verdict.Accepted x = x
 addedBy (verdict.Refused r) x = Refused r
 
 -- the file is written by the rules of writing: 1 if it would be above the limit; 14
-unfoldable pub adding : List ℕ → List ℕ → Donation → Frames → ℕ → Added
+unfoldable pub adding : List ℕ → List ℕ → Donation → Frames → ℕ → Written
 adding s t number limit room =
     addedBy (addVerdict (reading s) (soundIn s) (reading t) (soundIn t) number limit)
     (writing (newRecord s t number) (newSound s t) room)
-
--- a buffer d after it: the file from its start and then what it held, or all as it was
-abbrev pub holding : Added → List ℕ → List ℕ → List ℕ
-holding (Bytes n) ys d = front ys d
-holding (Refused r) ys d = d
-
--- the number of an answer: 0 where the song is added
-abbrev pub addedNumber : Added → ℕ
-addedNumber (Bytes n) = 0
-addedNumber (Refused r) = numberOf r
 
 -- ---- an empty side: 16-bit PCM, no frame, no cue and no entry
 unfoldable pub emptySide : ℕ → ℕ → Record

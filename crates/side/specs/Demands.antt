@@ -17,12 +17,11 @@ use Rattle.units.specs.declared.Verdict.the-variants as verdict
 use Rattle.units.specs.Refusals.{fileLimit, numberOf}
 use Rattle.formats.specs.declared.Format.{Format}
 use Rattle.reader.specs.Content.{reading, soundIn, fileFormat, fileFrames}
-use Rattle.writer.specs.declared.Written.the-variants as written
+use Rattle.writer.specs.declared.Written.{Written}
+use Rattle.writer.specs.declared.Written.the-variants.{Bytes, Refused}
 use Rattle.writer.specs.File.{sizeOf, fileOf, writing, writtenNumber}
-use Rattle.side.specs.declared.Added.{Added}
-use Rattle.side.specs.declared.Added.the-variants.{Bytes, Refused}
 use Rattle.side.specs.Side.{Song, isSideFile, songsIn, isListed, listedSound}
-use Rattle.side.specs.Adding.{suits, newFile, adding, addedNumber, emptySide}
+use Rattle.side.specs.Adding.{suits, newFile, adding, emptySide}
 
 -- ---- a song as it is sent: its file, the number that it was donated under, the limit of the side's frames, and the room of the
 -- buffer that is lent for it
@@ -39,7 +38,7 @@ pub record Bytewise (x : Sent) : Type 0 where
   pub limit : x .limit .0 < 4294967296
 
 -- the answer of adding it to a side file s, and the file that this makes
-abbrev pub answerTo : List ℕ → Sent → Added
+abbrev pub answerTo : List ℕ → Sent → Written
 answerTo s x = adding s (x .file) (x .number) (x .limit) (x .room)
 
 abbrev pub fileWith : List ℕ → Sent → List ℕ
@@ -115,7 +114,7 @@ AddedAgain =
 
 -- ---- songs sent one after the other, each added to the file that the one before made; where it is refused, that file stays
 
-abbrev pub sideAfter : Added → List ℕ → List ℕ → List ℕ
+abbrev pub sideAfter : Written → List ℕ → List ℕ → List ℕ
 sideAfter (Bytes n) old new = new
 sideAfter (Refused r) old new = old
 
@@ -214,7 +213,7 @@ pub record IsEmptySide (s : List ℕ) (channels rate : ℕ) : Type 0 where
 
 unfoldable pub EmptyMade : Type 0
 EmptyMade =
-    (channels rate room : ℕ) (n : BytePlace) → writing (emptySide channels rate) [] room ≡ written.Bytes n
+    (channels rate room : ℕ) (n : BytePlace) → writing (emptySide channels rate) [] room ≡ Bytes n
     → IsEmptySide (fileOf (emptySide channels rate) []) channels rate
 
 -- and it is written: 9 but for 1 or 2 channels and a rate of 1 to 192,000, then 14 without room for its 44 bytes
@@ -234,7 +233,7 @@ orElse (verdict.Refused r) n = numberOf r
 unfoldable pub AddNumbered : Type 0
 AddNumbered =
     (s t : List ℕ) (number : Donation) (limit : Frames) (room : ℕ)
-    → addedNumber (adding s t number limit room)
+    → writtenNumber (adding s t number limit room)
     ≡ orElse (reading t .verdict)
     (cond (not (isSideFile s)) 19
     (cond (not (suits (fileFormat s) (fileFormat t))) 9

@@ -22,16 +22,10 @@ ghost use mathlib.Core.List.{[], _++_};
 ghost use Prim.Native.Nat.{_+_, _≤_, _<_};
 ghost use lib.Dec.{eqb};
 ghost use lib.ListN.{length, take};
-ghost use Rattle.writer.specs.File.{writing, fileOf};
-ghost use Rattle.writer.specs.File as file;
+ghost use Rattle.little.specs.Writing.{holding};
+ghost use Rattle.writer.specs.File.{writing, fileOf, writtenVerdict};
 ghost use Rattle.side.specs.Side.{sixteenBit, tiled, isSide, sideRead, framesAt, soundAt};
-ghost use Rattle.side.specs.Adding.{suits, hasPlace, onceMore, placeVerdict, addVerdict, withSong, newFile, told, addedBy, adding, holding, emptySide};
-
-// What adding answers: the number of bytes of the new file, or why there is none.
-pub enum Added {
-    Bytes(BytePlace),
-    Refused(Refusal),
-}
+ghost use Rattle.side.specs.Adding.{suits, hasPlace, onceMore, placeVerdict, addVerdict, withSong, newFile, addedBy, adding, emptySide};
 
 // ---- a side
 
@@ -280,17 +274,16 @@ fn join(
     frames: Frames,
     added: &[u8],
     out: &mut [u8],
-) -> Added
+) -> Written
     requires { ⌜ (isSide made ≡ true) × (made .cues .count < 64) × (made .playlist .count ≤ 64) ⌝ }
     requires { ⌜ made .frames .0 + frames .0 < 4294967296 ⌝ }
-    ensures answer { λ r. ⌜ r ≡ told (writing (withSong made number frames) (now (sound .entry) ++ now (added .entry)) (length (now (out .entry)))) ⌝ }
-    ensures buffer { λ r. ⌜ now (out .exit) ≡ holding r (fileOf (withSong made number frames) (now (sound .entry) ++ now (added .entry))) (now (out .entry)) ⌝ }
+    ensures answer { λ r. ⌜ r
+        ≡ writing (withSong made number frames) (now (sound .entry) ++ now (added .entry)) (length (now (out .entry))) ⌝ }
+    ensures buffer { λ r. ⌜ now (out .exit) ≡ holding (writtenVerdict r)
+        (fileOf (withSong made number frames) (now (sound .entry) ++ now (added .entry))) (now (out .entry)) ⌝ }
 {
     let grown = with_song(made, number, frames);
-    match writer::write_joined(grown, sound, added, out) {
-        Written::Bytes(size) => Added::Bytes(size),
-        Written::Refused(refusal) => Added::Refused(refusal),
-    }
+    writer::write_joined(grown, sound, added, out)
 }
 
 // Adds a song to a side: both as they were read, each with its sound.
@@ -302,25 +295,28 @@ fn add_read(
     number: Donation,
     limit: Frames,
     out: &mut [u8],
-) -> Added
+) -> Written
     requires { ⌜ (side .made .cues .count ≤ 64) × (side .made .playlist .count ≤ 64) ⌝ }
     ensures answer { λ r. ⌜ r ≡ addedBy (addVerdict side (now (sound .entry)) song (now (added .entry)) number limit)
-        (writing (withSong (side .made) number (song .made .frames)) (now (sound .entry) ++ now (added .entry)) (length (now (out .entry)))) ⌝ }
-    ensures buffer { λ r. ⌜ now (out .exit) ≡ holding r (fileOf (withSong (side .made) number (song .made .frames)) (now (sound .entry) ++ now (added .entry))) (now (out .entry)) ⌝ }
+        (writing (withSong (side .made) number (song .made .frames)) (now (sound .entry) ++ now (added .entry))
+        (length (now (out .entry)))) ⌝ }
+    ensures buffer { λ r. ⌜ now (out .exit) ≡ holding (writtenVerdict r)
+        (fileOf (withSong (side .made) number (song .made .frames)) (now (sound .entry) ++ now (added .entry))) (now (out .entry)) ⌝ }
 {
     let old = side.made;
     let new = song.made;
     let verdict = settle(side, sound, song, added, number, limit);
     match verdict {
-        Verdict::Refused(refusal) => Added::Refused(refusal),
+        Verdict::Refused(refusal) => Written::Refused(refusal),
         Verdict::Accepted => join(old, sound, number, new.frames, added, out),
     }
 }
 
 // Adds a song to a side: the new side is written from the start of a lent buffer.
-pub fn add(side: &[u8], song: &[u8], number: Donation, limit: Frames, out: &mut [u8]) -> Added
+pub fn add(side: &[u8], song: &[u8], number: Donation, limit: Frames, out: &mut [u8]) -> Written
     ensures answer { λ r. ⌜ r ≡ adding (now (side .entry)) (now (song .entry)) number limit (length (now (out .entry))) ⌝ }
-    ensures buffer { λ r. ⌜ now (out .exit) ≡ holding r (newFile (now (side .entry)) (now (song .entry)) number) (now (out .entry)) ⌝ }
+    ensures buffer { λ r. ⌜ now (out .exit)
+        ≡ holding (writtenVerdict r) (newFile (now (side .entry)) (now (song .entry)) number) (now (out .entry)) ⌝ }
 {
     let opened = reader::open(side);
     let sent = reader::open(song);
@@ -359,7 +355,7 @@ fn empty_record(channels: u16, rate: u32) -> Record
 // Writes an empty side of some channels and a rate, from the start of a lent buffer.
 pub fn empty(channels: u16, rate: u32, out: &mut [u8]) -> Written
     ensures answer { λ r. ⌜ r ≡ writing (emptySide channels rate) [] (length (now (out .entry))) ⌝ }
-    ensures buffer { λ r. ⌜ now (out .exit) ≡ file.holding r (fileOf (emptySide channels rate) []) (now (out .entry)) ⌝ }
+    ensures buffer { λ r. ⌜ now (out .exit) ≡ holding (writtenVerdict r) (fileOf (emptySide channels rate) []) (now (out .entry)) ⌝ }
 {
     // So that the align fits; more channels are refused as writing refuses them.
     if 2 < channels {

@@ -8,9 +8,9 @@
 use files::Input;
 use files::Said;
 use units::BytePlace;
-use wave::Added;
 use wave::Donation;
 use wave::Frames;
+use wave::Written;
 
 // How it is called.
 const USAGE: [u8; 35] = *b"side_add SIDE SONG NUMBER LIMIT OUT";
@@ -29,8 +29,8 @@ fn keep(number: Donation, file: &[u8]) {
 fn add(side: &[u8], song: &[u8], number: Donation, limit: Frames) {
     let mut out = files::file_room();
     match wave::add(side, song, number, limit, &mut out) {
-        Added::Bytes(size) => keep(number, little::bytes_from(&out, BytePlace(0), size)),
-        Added::Refused(refusal) => listing::refused(refusal),
+        Written::Bytes(size) => keep(number, little::bytes_from(&out, BytePlace(0), size)),
+        Written::Refused(refusal) => listing::refused(refusal),
     }
 }
 

@@ -9,17 +9,16 @@
 use crate::entries::label;
 use crate::lent::refused_lines;
 use crate::lent::written_lines;
-use side::Added;
 use units::BytePlace;
 use units::Donation;
 use units::Frames;
 use writer::Written;
 
 // The number of a refusal, or 0 for a new side.
-fn number_of(added: Added) -> u64 {
+fn number_of(added: Written) -> u64 {
     match added {
-        Added::Bytes(_) => 0,
-        Added::Refused(refusal) => units::number(refusal) as u64,
+        Written::Bytes(_) => 0,
+        Written::Refused(refusal) => units::number(refusal) as u64,
     }
 }
 
@@ -45,8 +44,8 @@ fn added_lines(size: usize, out: &[u8], song: &[u8], number: Donation, limit: Fr
 // Adds a song to a side, in a lent buffer.
 fn add(old: &[u8], song: &[u8], number: Donation, limit: Frames, out: &mut [u8]) {
     match side::add(old, song, number, limit, out) {
-        Added::Bytes(size) => added_lines(size.0, out, song, number, limit),
-        Added::Refused(refusal) => refused_lines(refusal, out),
+        Written::Bytes(size) => added_lines(size.0, out, song, number, limit),
+        Written::Refused(refusal) => refused_lines(refusal, out),
     }
 }
 

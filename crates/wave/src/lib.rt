@@ -47,7 +47,7 @@ pub use reader::sound_of;
 
 // ---- writing
 
-// The bytes of the file that was written, or why there is none.
+// The bytes of the file or the new side that was written, or why there is none.
 pub use writer::Written;
 // Writes a record and its sound as a file: 9 to 13, 1, 14.
 pub use writer::write;
@@ -74,8 +74,6 @@ pub use approval::record_of;
 
 // ---- sides
 
-// The bytes of the new side, or why there is none.
-pub use side::Added;
 // Adds a song to a side: the song file's refusals, 19, 9, 16, 18, 17, 1, 14.
 pub use side::add;
 // Writes an empty side: 9, 14.

@@ -8,7 +8,7 @@ use lib.Dec.{leb}
 use lib.IntN.{ℤ}
 use lib.ListN.{length, set}
 use borrow.Author.Tests.{le-leb, lt-leb, leb-true, not-true, not-false}
-use Rattle.little.specs.Writing.{front}
+use Rattle.little.specs.Writing.{front, holding}
 use Rattle.little.proofs.Filling.{one-store, put-front}
 use Rattle.units.specs.declared.BytePlace.{BytePlace}
 use Rattle.units.specs.declared.Frames.{Frames}
@@ -17,6 +17,7 @@ use Rattle.units.specs.declared.Refusal.the-variants.{FormatWrong, OutputTooSma
 use Rattle.units.specs.declared.Verdict.{Verdict}
 use Rattle.units.specs.declared.Verdict.the-variants as verdict
 use Rattle.units.specs.Refusals.{numberOf, verdictNumber}
+use Rattle.units.specs.Checks.{decided, andThen}
 use Rattle.lists.proofs.Laws.{and-both}
 use Rattle.riff.specs.declared.Spot.{Spot}
 use Rattle.riff.specs.Walk.{partOf}
@@ -26,8 +27,7 @@ use Rattle.reader.specs.Content.{reading, soundSpot, soundIn}
 use Rattle.reader.proofs.Demands.{sound-placed}
 use Rattle.writer.specs.declared.Written.{Written}
 use Rattle.writer.specs.declared.Written.the-variants as written
-use Rattle.writer.specs.File.{andThen, fileOf, writing}
-use Rattle.writer.specs.File as writes
+use Rattle.writer.specs.File.{fileOf, writing, writtenVerdict}
 use Rattle.decode.specs.declared.Decoded.{Decoded}
 use Rattle.decode.specs.declared.Decoded.the-variants as decoded
 use Rattle.decode.specs.Decoding as decodes
@@ -35,13 +35,10 @@ use Rattle.encode.specs.declared.Coded.{Coded}
 use Rattle.encode.specs.declared.Encoded.{Encoded}
 use Rattle.encode.specs.declared.Encoded.the-variants as encoded
 use Rattle.encode.specs.Answer as encodes
-use Rattle.side.specs.declared.Added.{Added}
-use Rattle.side.specs.declared.Added.the-variants as added
-use Rattle.side.specs.Adding as adds
 use Rattle.words.specs.Words.{recordWords, fieldsFit, recordFrom}
 use Rattle.wave_c.specs.declared.Answer.{Answer}
 use Rattle.wave_c.specs.declared.CodedAnswer.{CodedAnswer}
-use Rattle.wave_c.specs.Interface.{refusedBy, done, answerBy, ofWritten, ofDecoded, ofAdded, ofEncoded, enough, readVerdict, keptBy, startOf, wordsValid, wordsWriting}
+use Rattle.wave_c.specs.Interface.{refusedBy, done, answerBy, ofWritten, ofDecoded, ofEncoded, enough, readVerdict, startOf, wordsValid, wordsWriting}
 
 -- ---- answers as numbers
 module _ (r : Refusal) {k : ℕ} (e : k ≡ numberOf r) where
@@ -68,22 +65,16 @@ module _ {y : Answer} where
   pub decoded-refused : {x : Decoded} {r : Refusal} → x ≡ decoded.Refused r → y ≡ refusedBy r → y ≡ ofDecoded x
   decoded-refused f g = g ∙ ap ofDecoded (sym f)
 
-  pub added-done : {x : Added} {n : BytePlace} → x ≡ added.Bytes n → y ≡ done (n .0) → y ≡ ofAdded x
-  added-done f g = g ∙ ap ofAdded (sym f)
-
-  pub added-refused : {x : Added} {r : Refusal} → x ≡ added.Refused r → y ≡ refusedBy r → y ≡ ofAdded x
-  added-refused f g = g ∙ ap ofAdded (sym f)
-
 pub ruleset answering =
-    (refused-told, coded-refused, coded-done, written-done, written-refused, decoded-done, decoded-refused, added-done, added-refused)
+    (refused-told, coded-refused, coded-done, written-done, written-refused, decoded-done, decoded-refused)
 
 -- ---- an answer that is the operation's, and the buffer as the operation leaves it
 module _ {x y : Written} (e : x ≡ y) where
   pub written-told : {r : Answer} → r ≡ ofWritten x → r ≡ ofWritten y
   written-told f = f ∙ ap ofWritten e
 
-  pub written-held : (ys d : List ℕ) {z : List ℕ} → z ≡ writes.holding x ys d → z ≡ writes.holding y ys d
-  written-held ys d f = f ∙ ap (λ (v : Written). writes.holding v ys d) e
+  pub written-held : (ys d : List ℕ) {z : List ℕ} → z ≡ holding (writtenVerdict x) ys d → z ≡ holding (writtenVerdict y) ys d
+  written-held ys d f = f ∙ ap (λ (v : Written). holding (writtenVerdict v) ys d) e
 
 module _ {x y : Decoded} (e : x ≡ y) where
   pub decoded-told : {r : Answer} → r ≡ ofDecoded x → r ≡ ofDecoded y
@@ -99,20 +90,13 @@ module _ {x y : Encoded} (e : x ≡ y) where
   pub encoded-held : (ys d : List ℕ) {z : List ℕ} → z ≡ encodes.holding x ys d → z ≡ encodes.holding y ys d
   encoded-held ys d f = f ∙ ap (λ (v : Encoded). encodes.holding v ys d) e
 
-module _ {x y : Added} (e : x ≡ y) where
-  pub added-told : {r : Answer} → r ≡ ofAdded x → r ≡ ofAdded y
-  added-told f = f ∙ ap ofAdded e
-
-  pub added-held : (ys d : List ℕ) {z : List ℕ} → z ≡ adds.holding x ys d → z ≡ adds.holding y ys d
-  added-held ys d f = f ∙ ap (λ (v : Added). adds.holding v ys d) e
-
-pub ruleset passing = (written-told, written-held, decoded-told, decoded-held, encoded-told, encoded-held, added-told, added-held)
+pub ruleset passing = (written-told, written-held, decoded-told, decoded-held, encoded-told, encoded-held)
 
 -- ---- room for n elements
 module _ (n room : ℕ) where
   module _ (h : room < n) where
     short : enough n room ≡ verdict.Refused OutputTooSmall
-    unfolding enough
+    unfolding enough decided
     short = simp (lt-leb n room h)
 
     pub number-short : {k : ℕ} → k ≡ numberOf OutputTooSmall → k ≡ verdictNumber (enough n room)
@@ -121,12 +105,12 @@ module _ (n room : ℕ) where
     pub answer-short : (m : ℕ) {y : Answer} → y ≡ refusedBy OutputTooSmall → y ≡ answerBy (enough n room) m
     answer-short m e = e ∙ ap (λ (v : Verdict). answerBy v m) (sym short)
 
-    pub kept-short : {A : Type 0} (ys d : List A) → d ≡ keptBy (enough n room) ys d
-    kept-short {A} ys d = ap (λ (v : Verdict). keptBy v ys d) (sym short)
+    pub kept-short : {A : Type 0} (ys d : List A) → d ≡ holding (enough n room) ys d
+    kept-short {A} ys d = ap (λ (v : Verdict). holding v ys d) (sym short)
 
   module _ (h : n ≤ room) where
     roomy : enough n room ≡ verdict.Accepted
-    unfolding enough
+    unfolding enough decided
     roomy = simp (le-leb n room h)
 
     pub number-roomy : 0 ≡ verdictNumber (enough n room)
@@ -135,8 +119,8 @@ module _ (n room : ℕ) where
     pub answer-roomy : (m : ℕ) {y : Answer} → y ≡ done m → y ≡ answerBy (enough n room) m
     answer-roomy m e = e ∙ ap (λ (v : Verdict). answerBy v m) (sym roomy)
 
-    pub kept-roomy : {A : Type 0} (ys d : List A) {z : List A} → z ≡ front ys d → z ≡ keptBy (enough n room) ys d
-    kept-roomy ys d e = e ∙ ap (λ (v : Verdict). keptBy v ys d) (sym roomy)
+    pub kept-roomy : {A : Type 0} (ys d : List A) {z : List A} → z ≡ front ys d → z ≡ holding (enough n room) ys d
+    kept-roomy ys d e = e ∙ ap (λ (v : Verdict). holding v ys d) (sym roomy)
 
 -- where the sound starts, in the first element
 module _ (spot : Spot) (d : List ℕ) (h : 1 ≤ length d) where
@@ -144,7 +128,7 @@ module _ (spot : Spot) (d : List ℕ) (h : 1 ≤ length d) where
       → y ≡ answerBy (enough 1 (length d)) (length (partOf s spot []))
   sound-counted s e f = answer-roomy 1 (length d) h (length (partOf s spot [])) (f ∙ ap (λ (w : List ℕ). done (length w)) e)
 
-  pub start-put : {x : ℕ} → x ≡ startOf spot → set d 0 x ≡ keptBy (enough 1 (length d)) (startOf spot ∷ []) d
+  pub start-put : {x : ℕ} → x ≡ startOf spot → set d 0 x ≡ holding (enough 1 (length d)) (startOf spot ∷ []) d
   start-put e = ap (set d 0) e ∙ kept-roomy 1 (length d) h (startOf spot ∷ []) d (put-front (one-store (omega arith)))
 
 pub ruleset rooming =
@@ -163,8 +147,8 @@ module _ (n : ℕ) (s : List ℕ) (room : ℕ) {x : Reading} (e : x ≡ reading 
     pub answer-refused : (m : ℕ) {y : Answer} → y ≡ refusedBy r → y ≡ answerBy (readVerdict n s room) m
     answer-refused m g = g ∙ ap (λ (v : Verdict). answerBy v m) (sym turned)
 
-    pub kept-refused : {A : Type 0} (ys d : List A) → d ≡ keptBy (readVerdict n s room) ys d
-    kept-refused ys d = ap (λ (v : Verdict). keptBy v ys d) (sym turned)
+    pub kept-refused : {A : Type 0} (ys d : List A) → d ≡ holding (readVerdict n s room) ys d
+    kept-refused ys d = ap (λ (v : Verdict). holding v ys d) (sym turned)
 
   module _ (f : x .verdict ≡ verdict.Accepted) where
     taken : enough n room ≡ readVerdict n s room
@@ -174,9 +158,9 @@ module _ (n : ℕ) (s : List ℕ) (room : ℕ) {x : Reading} (e : x ≡ reading 
     pub number-taken : {k : ℕ} → k ≡ verdictNumber (enough n room) → k ≡ verdictNumber (readVerdict n s room)
     number-taken g = g ∙ ap verdictNumber taken
 
-    pub record-kept : (d : List ℕ) {z : List ℕ} → z ≡ keptBy (enough n room) (recordWords (x .made)) d
-        → z ≡ keptBy (readVerdict n s room) (recordWords (reading s .made)) d
-    record-kept d g = g ∙ (λ i. keptBy (taken i) (recordWords (e i .made)) d)
+    pub record-kept : (d : List ℕ) {z : List ℕ} → z ≡ holding (enough n room) (recordWords (x .made)) d
+        → z ≡ holding (readVerdict n s room) (recordWords (reading s .made)) d
+    record-kept d g = g ∙ (λ i. holding (taken i) (recordWords (e i .made)) d)
 
     module _ {spot : Spot} (h : spot ≡ soundSpot s) where
       pub sound-told : {y : Answer} → y ≡ answerBy (enough n room) (length (partOf s spot [])) → y ≡ answerBy (readVerdict n s room) (length (soundIn s))
@@ -184,9 +168,9 @@ module _ (n : ℕ) (s : List ℕ) (room : ℕ) {x : Reading} (e : x ≡ reading 
           let p : length (partOf s spot []) ≡ length (soundIn s) = ap length (sound-placed s h refl) in
           g ∙ (λ i. answerBy (taken i) (p i))
 
-      pub start-kept : (d : List ℕ) {z : List ℕ} → z ≡ keptBy (enough n room) (startOf spot ∷ []) d
-          → z ≡ keptBy (readVerdict n s room) (startOf (soundSpot s) ∷ []) d
-      start-kept d g = g ∙ (λ i. keptBy (taken i) (startOf (h i) ∷ []) d)
+      pub start-kept : (d : List ℕ) {z : List ℕ} → z ≡ holding (enough n room) (startOf spot ∷ []) d
+          → z ≡ holding (readVerdict n s room) (startOf (soundSpot s) ∷ []) d
+      start-kept d g = g ∙ (λ i. holding (taken i) (startOf (h i) ∷ []) d)
 
 pub ruleset reading-first = (number-refused, answer-refused, kept-refused, number-taken, record-kept, sound-told, start-kept)
 
@@ -220,8 +204,8 @@ module _ (w : List ℕ) where
       pub words-refused : {y : Answer} → y ≡ refusedBy FormatWrong → y ≡ ofWritten (wordsWriting w s room)
       words-refused g = g ∙ ap ofWritten (sym unfit)
 
-      pub words-left : (ys d : List ℕ) → d ≡ writes.holding (wordsWriting w s room) ys d
-      words-left ys d = ap (λ (v : Written). writes.holding v ys d) (sym unfit)
+      pub words-left : (ys d : List ℕ) → d ≡ holding (writtenVerdict (wordsWriting w s room)) ys d
+      words-left ys d = ap (λ (v : Written). holding (writtenVerdict v) ys d) (sym unfit)
 
     module _ (f : not b ≡ false) {m : Record} (g : m ≡ recordFrom w) {x : Written} (h : x ≡ writing m s room) where
       fit : x ≡ wordsWriting w s room
@@ -234,7 +218,8 @@ module _ (w : List ℕ) where
       pub words-told : {y : Answer} → y ≡ ofWritten x → y ≡ ofWritten (wordsWriting w s room)
       words-told k = k ∙ ap ofWritten fit
 
-      pub words-held : (d : List ℕ) {z : List ℕ} → z ≡ writes.holding x (fileOf m s) d → z ≡ writes.holding (wordsWriting w s room) (fileOf (recordFrom w) s) d
-      words-held d k = k ∙ (λ i. writes.holding (fit i) (fileOf (g i) s) d)
+      pub words-held : (d : List ℕ) {z : List ℕ} → z ≡ holding (writtenVerdict x) (fileOf m s) d
+          → z ≡ holding (writtenVerdict (wordsWriting w s room)) (fileOf (recordFrom w) s) d
+      words-held d k = k ∙ (λ i. holding (writtenVerdict (fit i)) (fileOf (g i) s) d)
 
 pub ruleset wording = (words-short, words-asked, words-enough, words-fit, words-refused, words-left, words-told, words-held)

@@ -1,27 +1,25 @@
--- What the functions of the C interface answer, and what their lent buffers then hold. Assumes nothing.
+-- What the functions of the C interface answer. Assumes nothing.
 use Prim.Native.Nat.{ℕ}
 use mathlib.Core.Bool.{Bool, cond, _&&_}
-use mathlib.Core.List.{List}
+use mathlib.Core.List.{List, [], _∷_}
 use lib.Dec.{leb}
 use lib.ListN.{length}
-use Rattle.little.specs.Writing.{front}
 use Rattle.units.specs.declared.Refusal.{Refusal}
 use Rattle.units.specs.declared.Refusal.the-variants.{FormatWrong, OutputTooSmall}
 use Rattle.units.specs.declared.Verdict.{Verdict}
 use Rattle.units.specs.declared.Verdict.the-variants as verdict
-use Rattle.units.specs.Refusals.{numberOf, demand}
+use Rattle.units.specs.Refusals.{numberOf}
+use Rattle.units.specs.Checks.{check, decided, andThen}
 use Rattle.riff.specs.declared.Spot.{Spot}
 use Rattle.riff.specs.declared.Spot.the-variants.{At, Missing}
 use Rattle.reader.specs.Content.{reading}
 use Rattle.writer.specs.declared.Written.{Written}
 use Rattle.writer.specs.declared.Written.the-variants as written
-use Rattle.writer.specs.File.{andThen, writing}
+use Rattle.writer.specs.File.{writing}
 use Rattle.decode.specs.declared.Decoded.{Decoded}
 use Rattle.decode.specs.declared.Decoded.the-variants as decoded
 use Rattle.encode.specs.declared.Encoded.{Encoded}
 use Rattle.encode.specs.declared.Encoded.the-variants as encoded
-use Rattle.side.specs.declared.Added.{Added}
-use Rattle.side.specs.declared.Added.the-variants as added
 use Rattle.words.specs.Words.{fieldsFit, recordFrom}
 use Rattle.wave_c.specs.declared.Answer.{Answer}
 use Rattle.wave_c.specs.declared.CodedAnswer.{CodedAnswer}
@@ -46,10 +44,6 @@ abbrev pub ofDecoded : Decoded → Answer
 ofDecoded (decoded.Frames n) = done (n .0)
 ofDecoded (decoded.Refused r) = refusedBy r
 
-abbrev pub ofAdded : Added → Answer
-ofAdded (added.Bytes n) = done (n .0)
-ofAdded (added.Refused r) = refusedBy r
-
 abbrev pub ofEncoded : Encoded → CodedAnswer
 ofEncoded (encoded.Blocks w) = record { refusal = 0; left = w .left .0; right = w .right .0; n = w .bytes .0 }
 ofEncoded (encoded.Refused r) = record { refusal = numberOf r; left = 0; right = 0; n = 0 }
@@ -58,16 +52,11 @@ ofEncoded (encoded.Refused r) = record { refusal = numberOf r; left = 0; right =
 
 -- 14, where a lent buffer has not n elements
 unfoldable pub enough : ℕ → ℕ → Verdict
-enough n room = demand (leb n room) OutputTooSmall verdict.Accepted
+enough n room = decided (check (leb n room) OutputTooSmall ∷ [])
 
 -- the reader's refusals 1 to 13, then 14
 unfoldable pub readVerdict : ℕ → List ℕ → ℕ → Verdict
 readVerdict n s room = andThen (reading s .verdict) (enough n room)
-
--- a buffer d after it: ys from its start and then what it held, or all as it was
-abbrev pub keptBy : {A : Type 0} → Verdict → List A → List A → List A
-keptBy verdict.Accepted ys d = front ys d
-keptBy (verdict.Refused r) ys d = d
 
 -- where a chunk's data start
 abbrev pub startOf : Spot → ℕ

@@ -6,7 +6,6 @@ use units::Donation;
 use units::Frames;
 use units::Refusal;
 use units::Verdict;
-use wave::Added;
 use wave::Decoded;
 use wave::Encoded;
 use wave::Written;
@@ -16,17 +15,16 @@ ghost use lib.ListN.{length};
 ghost use Rattle.units.specs.Refusals.{numberOf, verdictNumber};
 ghost use Rattle.reader.specs.Content.{reading, soundSpot, soundIn};
 ghost use Rattle.riff.specs.Walk.{partOf};
-ghost use Rattle.writer.specs.File.{fileOf, writing};
-ghost use Rattle.writer.specs.File as writes;
+ghost use Rattle.little.specs.Writing.{holding};
+ghost use Rattle.writer.specs.File.{fileOf, writing, writtenVerdict};
 ghost use Rattle.encode.specs.Encoding.{encodedBytes};
 ghost use Rattle.encode.specs.Answer.{encoding};
 ghost use Rattle.encode.specs.Answer as encodes;
 ghost use Rattle.decode.specs.Decoding.{decoding, blockDecoding, fileSound, fileBlock};
 ghost use Rattle.decode.specs.Decoding as decodes;
 ghost use Rattle.side.specs.Adding.{adding, newFile, emptySide};
-ghost use Rattle.side.specs.Adding as adds;
 ghost use Rattle.words.specs.Words.{recordWords, recordFrom};
-ghost use Rattle.wave_c.specs.Interface.{refusedBy, done, ofWritten, ofDecoded, ofEncoded, ofAdded, answerBy, keptBy, enough, readVerdict, startOf, wordsValid, wordsWriting};
+ghost use Rattle.wave_c.specs.Interface.{refusedBy, done, ofWritten, ofDecoded, ofEncoded, answerBy, enough, readVerdict, startOf, wordsValid, wordsWriting};
 
 // How many bytes or frames there are, or the number of the refusal.
 #[repr(C)]
@@ -70,7 +68,7 @@ fn told(n: usize) -> Answer
     Answer { refusal: 0, n: n }
 }
 
-// What writing answers.
+// What writing answers, and adding.
 fn of_written(answer: Written) -> Answer
     ensures answer { λ r. ⌜ r ≡ ofWritten answer ⌝ }
 {
@@ -87,16 +85,6 @@ fn of_decoded(answer: Decoded) -> Answer
     match answer {
         Decoded::Frames(frames) => told(frames.0 as usize),
         Decoded::Refused(refusal) => turned_away(refusal),
-    }
-}
-
-// What adding answers.
-fn of_added(answer: Added) -> Answer
-    ensures answer { λ r. ⌜ r ≡ ofAdded answer ⌝ }
-{
-    match answer {
-        Added::Bytes(size) => told(size.0),
-        Added::Refused(refusal) => turned_away(refusal),
     }
 }
 
@@ -125,7 +113,7 @@ fn of_encoded(answer: Encoded) -> CodedAnswer
 // Puts the record of a file that was taken, where there is room for its words.
 fn put_record(made: Record, out: &mut [u32]) -> u32
     ensures answer { λ r. ⌜ r ≡ verdictNumber (enough 393 (length (now (out .entry)))) ⌝ }
-    ensures buffer { λ r. ⌜ now (out .exit) ≡ keptBy (enough 393 (length (now (out .entry)))) (recordWords made) (now (out .entry)) ⌝ }
+    ensures buffer { λ r. ⌜ now (out .exit) ≡ holding (enough 393 (length (now (out .entry)))) (recordWords made) (now (out .entry)) ⌝ }
 {
     if out.len() < words::WORDS {
         return number_of(Refusal::OutputTooSmall);
@@ -138,7 +126,8 @@ fn put_record(made: Record, out: &mut [u32]) -> u32
 #[no_mangle]
 pub extern "C" fn tronalhet_read(file: &[u8], out: &mut [u32]) -> u32
     ensures answer { λ r. ⌜ r ≡ verdictNumber (readVerdict 393 (now (file .entry)) (length (now (out .entry)))) ⌝ }
-    ensures buffer { λ r. ⌜ now (out .exit) ≡ keptBy (readVerdict 393 (now (file .entry)) (length (now (out .entry)))) (recordWords (reading (now (file .entry)) .made)) (now (out .entry)) ⌝ }
+    ensures buffer { λ r. ⌜ now (out .exit) ≡ holding (readVerdict 393 (now (file .entry)) (length (now (out .entry))))
+        (recordWords (reading (now (file .entry)) .made)) (now (out .entry)) ⌝ }
 {
     let reading = wave::read(file);
     let verdict = reading.verdict;
@@ -162,7 +151,7 @@ fn start_of(spot: Spot) -> usize
 // Puts where the sound of a file that was taken starts, where there is room for it.
 fn put_start(file: &[u8], spot: Spot, out: &mut [usize]) -> Answer
     ensures answer { λ r. ⌜ r ≡ answerBy (enough 1 (length (now (out .entry)))) (length (partOf (now (file .entry)) spot [])) ⌝ }
-    ensures buffer { λ r. ⌜ now (out .exit) ≡ keptBy (enough 1 (length (now (out .entry)))) (startOf spot ∷ []) (now (out .entry)) ⌝ }
+    ensures buffer { λ r. ⌜ now (out .exit) ≡ holding (enough 1 (length (now (out .entry)))) (startOf spot ∷ []) (now (out .entry)) ⌝ }
 {
     if out.len() < 1 {
         return turned_away(Refusal::OutputTooSmall);
@@ -175,8 +164,10 @@ fn put_start(file: &[u8], spot: Spot, out: &mut [usize]) -> Answer
 // Where the sound of a file starts, put to a lent buffer, and how many bytes it has.
 #[no_mangle]
 pub extern "C" fn tronalhet_sound(file: &[u8], out: &mut [usize]) -> Answer
-    ensures answer { λ r. ⌜ r ≡ answerBy (readVerdict 1 (now (file .entry)) (length (now (out .entry)))) (length (soundIn (now (file .entry)))) ⌝ }
-    ensures buffer { λ r. ⌜ now (out .exit) ≡ keptBy (readVerdict 1 (now (file .entry)) (length (now (out .entry)))) (startOf (soundSpot (now (file .entry))) ∷ []) (now (out .entry)) ⌝ }
+    ensures answer { λ r. ⌜ r ≡ answerBy (readVerdict 1 (now (file .entry)) (length (now (out .entry))))
+        (length (soundIn (now (file .entry)))) ⌝ }
+    ensures buffer { λ r. ⌜ now (out .exit) ≡ holding (readVerdict 1 (now (file .entry)) (length (now (out .entry))))
+        (startOf (soundSpot (now (file .entry))) ∷ []) (now (out .entry)) ⌝ }
 {
     let opened = reader::open(file);
     let reading = opened.answer;
@@ -204,7 +195,9 @@ fn words_valid(given: &[u32]) -> bool
 #[no_mangle]
 pub extern "C" fn tronalhet_write(given: &[u32], sound: &[u8], out: &mut [u8]) -> Answer
     ensures answer { λ r. ⌜ r ≡ ofWritten (wordsWriting (now (given .entry)) (now (sound .entry)) (length (now (out .entry)))) ⌝ }
-    ensures buffer { λ r. ⌜ now (out .exit) ≡ writes.holding (wordsWriting (now (given .entry)) (now (sound .entry)) (length (now (out .entry)))) (fileOf (recordFrom (now (given .entry))) (now (sound .entry))) (now (out .entry)) ⌝ }
+    ensures buffer { λ r. ⌜ now (out .exit)
+        ≡ holding (writtenVerdict (wordsWriting (now (given .entry)) (now (sound .entry)) (length (now (out .entry)))))
+        (fileOf (recordFrom (now (given .entry))) (now (sound .entry))) (now (out .entry)) ⌝ }
 {
     let valid = words_valid(given);
     if !valid {
@@ -221,7 +214,8 @@ pub extern "C" fn tronalhet_write(given: &[u32], sound: &[u8], out: &mut [u8]) -
 #[no_mangle]
 pub extern "C" fn tronalhet_decode(file: &[u8], out: &mut [i16]) -> Answer
     ensures answer { λ r. ⌜ r ≡ ofDecoded (decoding (now (file .entry)) (length (now (out .entry)))) ⌝ }
-    ensures buffer { λ r. ⌜ now (out .exit) ≡ decodes.holding (decoding (now (file .entry)) (length (now (out .entry)))) (fileSound (now (file .entry))) (now (out .entry)) ⌝ }
+    ensures buffer { λ r. ⌜ now (out .exit) ≡ decodes.holding (decoding (now (file .entry)) (length (now (out .entry))))
+        (fileSound (now (file .entry))) (now (out .entry)) ⌝ }
 {
     let answer = wave::decode(file, out);
     of_decoded(answer)
@@ -231,7 +225,8 @@ pub extern "C" fn tronalhet_decode(file: &[u8], out: &mut [i16]) -> Answer
 #[no_mangle]
 pub extern "C" fn tronalhet_decode_block(file: &[u8], block: u32, out: &mut [i16]) -> Answer
     ensures answer { λ r. ⌜ r ≡ ofDecoded (blockDecoding (now (file .entry)) block (length (now (out .entry)))) ⌝ }
-    ensures buffer { λ r. ⌜ now (out .exit) ≡ decodes.holding (blockDecoding (now (file .entry)) block (length (now (out .entry)))) (fileBlock (now (file .entry)) block) (now (out .entry)) ⌝ }
+    ensures buffer { λ r. ⌜ now (out .exit) ≡ decodes.holding (blockDecoding (now (file .entry)) block (length (now (out .entry))))
+        (fileBlock (now (file .entry)) block) (now (out .entry)) ⌝ }
 {
     let answer = wave::decode_block(file, block, out);
     of_decoded(answer)
@@ -246,7 +241,8 @@ pub extern "C" fn tronalhet_encode(
     out: &mut [u8],
 ) -> CodedAnswer
     ensures answer { λ r. ⌜ r ≡ ofEncoded (encoding (now (sound .entry)) channels align (length (now (out .entry)))) ⌝ }
-    ensures buffer { λ r. ⌜ now (out .exit) ≡ encodes.holding (encoding (now (sound .entry)) channels align (length (now (out .entry)))) (encodedBytes channels align (now (sound .entry))) (now (out .entry)) ⌝ }
+    ensures buffer { λ r. ⌜ now (out .exit) ≡ encodes.holding (encoding (now (sound .entry)) channels align (length (now (out .entry))))
+        (encodedBytes channels align (now (sound .entry))) (now (out .entry)) ⌝ }
 {
     let answer = wave::encode(sound, channels, align, out);
     of_encoded(answer)
@@ -258,7 +254,9 @@ pub extern "C" fn tronalhet_encode(
 #[no_mangle]
 pub extern "C" fn tronalhet_empty(channels: u16, rate: u32, out: &mut [u8]) -> Answer
     ensures answer { λ r. ⌜ r ≡ ofWritten (writing (emptySide channels rate) [] (length (now (out .entry)))) ⌝ }
-    ensures buffer { λ r. ⌜ now (out .exit) ≡ writes.holding (writing (emptySide channels rate) [] (length (now (out .entry)))) (fileOf (emptySide channels rate) []) (now (out .entry)) ⌝ }
+    ensures buffer { λ r. ⌜ now (out .exit)
+        ≡ holding (writtenVerdict (writing (emptySide channels rate) [] (length (now (out .entry)))))
+        (fileOf (emptySide channels rate) []) (now (out .entry)) ⌝ }
 {
     let answer = wave::empty(channels, rate, out);
     of_written(answer)
@@ -273,9 +271,14 @@ pub extern "C" fn tronalhet_add(
     limit: u32,
     out: &mut [u8],
 ) -> Answer
-    ensures answer { λ r. ⌜ r ≡ ofAdded (adding (now (side .entry)) (now (song .entry)) (record { 0 = number }) (record { 0 = limit }) (length (now (out .entry)))) ⌝ }
-    ensures buffer { λ r. ⌜ now (out .exit) ≡ adds.holding (adding (now (side .entry)) (now (song .entry)) (record { 0 = number }) (record { 0 = limit }) (length (now (out .entry)))) (newFile (now (side .entry)) (now (song .entry)) (record { 0 = number })) (now (out .entry)) ⌝ }
+    ensures answer { λ r. ⌜ r
+        ≡ ofWritten
+        (adding (now (side .entry)) (now (song .entry)) (record { 0 = number }) (record { 0 = limit }) (length (now (out .entry)))) ⌝ }
+    ensures buffer { λ r. ⌜ now (out .exit)
+        ≡ holding (writtenVerdict
+        (adding (now (side .entry)) (now (song .entry)) (record { 0 = number }) (record { 0 = limit }) (length (now (out .entry)))))
+        (newFile (now (side .entry)) (now (song .entry)) (record { 0 = number })) (now (out .entry)) ⌝ }
 {
     let answer = wave::add(side, song, Donation(number), Frames(limit), out);
-    of_added(answer)
+    of_written(answer)
 }

@@ -6,7 +6,7 @@ use Prim.Native.Nat.{ℕ, _+_, _-_, _≤_, _<_}
 use native.Mathlib.Omega.{arith}
 use lib.ListN.{length, length-append}
 use Rattle.units.specs.Refusals.{fileLimit}
-use Rattle.little.specs.Writing.{Put, front}
+use Rattle.little.specs.Writing.{Put, front, holding}
 use Rattle.little.proofs.Filling.{put-front, next-room, both-put, first-room}
 use Rattle.units.specs.declared.BytePlace.{BytePlace}
 use Rattle.units.specs.declared.Refusal.{Refusal}
@@ -18,7 +18,7 @@ use Rattle.riff.proofs.Laying.{length-file}
 use Rattle.formats.specs.Format.{formatRule}
 use Rattle.tables.specs.declared.Playlist.{Playlist}
 use Rattle.rules.specs.declared.Record.{Record}
-use Rattle.writer.specs.File.{factChunk, cuesChunk, playsChunk, partsOf, fileOf, untilTables, tablesOf, settled, writing, holding}
+use Rattle.writer.specs.File.{factChunk, cuesChunk, playsChunk, partsOf, fileOf, untilTables, tablesOf, settled, writing, writtenVerdict}
 use Rattle.writer.specs.declared.Written.{Written}
 use Rattle.writer.specs.declared.Written.the-variants.{Bytes}
 use Rattle.writer.specs.declared.Written.the-variants as written
@@ -125,8 +125,8 @@ module _ (m : Record) (w d : List ℕ) {x : Written} (e : x ≡ writing m w (len
   pub asked : {n : BytePlace} → x ≡ Bytes n → writing m w (length d) ≡ Bytes n
   asked f = sym e ∙ f
 
-pub held-refused : (ys d : List ℕ) {x : Written} {r : Refusal} → x ≡ written.Refused r → d ≡ holding x ys d
-held-refused ys d f = ap (λ (y : Written). holding y ys d) (sym f)
+pub held-refused : (ys d : List ℕ) {x : Written} {r : Refusal} → x ≡ written.Refused r → d ≡ holding (writtenVerdict x) ys d
+held-refused ys d f = ap (λ (y : Written). holding (writtenVerdict y) ys d) (sym f)
 
 pub ruleset answering = (asked, held-refused)
 
@@ -135,7 +135,7 @@ module _ (m : Record) (w d : List ℕ) (r : Written) where
   pub one-answer : r ≡ writing m (w ++ []) (length d) → r ≡ writing m w (length d)
   one-answer h = rw (append-nil w) at h
 
-  pub one-held : (z : List ℕ) → z ≡ holding r (fileOf m (w ++ [])) d → z ≡ holding r (fileOf m w) d
+  pub one-held : (z : List ℕ) → z ≡ holding (writtenVerdict r) (fileOf m (w ++ [])) d → z ≡ holding (writtenVerdict r) (fileOf m w) d
   one-held z h = rw (append-nil w) at h
 
 pub ruleset one-part = (one-answer, one-held)

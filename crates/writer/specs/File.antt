@@ -1,15 +1,14 @@
--- The file of a record and its sound, the verdict on writing it, and what the lent buffer then holds. Assumes nothing.
+-- The file of a record and its sound, the verdict on writing it, and the answer. Assumes nothing.
 use Prim.Native.Nat.{ℕ, _-_}
 use mathlib.Core.List.{List, [], _∷_, _++_}
 use lib.Dec.{leb}
 use lib.ListN.{length}
-use Rattle.little.specs.Writing.{front}
 use Rattle.units.specs.declared.BytePlace.{BytePlace}
 use Rattle.units.specs.declared.Frames.{Frames}
 use Rattle.units.specs.declared.Refusal.the-variants.{LengthOutOfRange, OutputTooSmall}
 use Rattle.units.specs.declared.Verdict.{Verdict}
 use Rattle.units.specs.declared.Verdict.the-variants as verdict
-use Rattle.units.specs.Refusals.{fileLimit, numberOf}
+use Rattle.units.specs.Refusals.{fileLimit, verdictNumber}
 use Rattle.units.specs.Checks.{Check, check, decided}
 pub use Rattle.units.specs.Checks.{andThen}
 use Rattle.codes.specs.declared.Code.the-variants as code
@@ -86,12 +85,10 @@ writtenBy (verdict.Refused r) n = Refused r
 unfoldable pub writing : Record → List ℕ → ℕ → Written
 writing m w room = writtenBy (settled m w room) (sizeOf (fileOf m w))
 
--- a buffer d after it: the file from its start and then what it held, or all as it was
-abbrev pub holding : Written → List ℕ → List ℕ → List ℕ
-holding (Bytes n) ys d = front ys d
-holding (Refused r) ys d = d
+-- the verdict that an answer tells, and its number: 0 where the file is written
+abbrev pub writtenVerdict : Written → Verdict
+writtenVerdict (Bytes n) = verdict.Accepted
+writtenVerdict (Refused r) = verdict.Refused r
 
--- the number of an answer: 0 where the file is written
 abbrev pub writtenNumber : Written → ℕ
-writtenNumber (Bytes n) = 0
-writtenNumber (Refused r) = numberOf r
+writtenNumber r = verdictNumber (writtenVerdict r)

@@ -18,13 +18,13 @@ ghost use Prim.Native.Nat.{_+_, _≤_};
 ghost use lib.ListN.{length};
 ghost use Rattle.units.specs.Refusals.{fileLimit};
 ghost use Rattle.codes.specs.declared.Code.the-variants as code;
-ghost use Rattle.little.specs.Writing.{Put};
+ghost use Rattle.little.specs.Writing.{Put, holding};
 ghost use Rattle.formats.specs.Format.{formatRule};
 ghost use Rattle.formats.specs.Frames.{needsFact};
 ghost use Rattle.formats.specs.Bytes.{formatBytes};
 ghost use Rattle.riff.specs.Laying.{piece, padBytes, pieceBytes, partBytes, extentIf};
 ghost use Rattle.writer.specs.declared.Written.the-variants.{Bytes};
-ghost use Rattle.writer.specs.File.{factChunk, cuesChunk, playsChunk, fileOf, untilTables, tablesOf, writing, holding};
+ghost use Rattle.writer.specs.File.{factChunk, cuesChunk, playsChunk, fileOf, untilTables, tablesOf, writing, writtenVerdict};
 
 // What writing answers: the number of bytes of the file, or why there is none.
 pub enum Written {
@@ -231,7 +231,7 @@ fn put_file(made: Record, first: &[u8], second: &[u8], size: BytePlace, out: &mu
     requires { ⌜ writing made (now first ++ now second) (length (now out)) ≡ Bytes size ⌝ }
     ensures answer { λ r. ⌜ r ≡ writing made (now (first .entry) ++ now (second .entry)) (length (now (out .entry))) ⌝ }
     ensures buffer { λ r. ⌜ now (out .exit)
-        ≡ holding r (fileOf made (now (first .entry) ++ now (second .entry))) (now (out .entry)) ⌝ }
+        ≡ holding (writtenVerdict r) (fileOf made (now (first .entry) ++ now (second .entry))) (now (out .entry)) ⌝ }
 {
     let format = made.format;
     let frames = made.frames;
@@ -246,7 +246,7 @@ fn put_file(made: Record, first: &[u8], second: &[u8], size: BytePlace, out: &mu
 // Writes a record and its sound as a file, from the start of a lent buffer.
 pub fn write(made: Record, sound: &[u8], out: &mut [u8]) -> Written
     ensures answer { λ r. ⌜ r ≡ writing made (now (sound .entry)) (length (now (out .entry))) ⌝ }
-    ensures buffer { λ r. ⌜ now (out .exit) ≡ holding r (fileOf made (now (sound .entry))) (now (out .entry)) ⌝ }
+    ensures buffer { λ r. ⌜ now (out .exit) ≡ holding (writtenVerdict r) (fileOf made (now (sound .entry))) (now (out .entry)) ⌝ }
 {
     write_joined(made, sound, b"", out)
 }
@@ -255,7 +255,7 @@ pub fn write(made: Record, sound: &[u8], out: &mut [u8]) -> Written
 pub fn write_joined(made: Record, first: &[u8], second: &[u8], out: &mut [u8]) -> Written
     ensures answer { λ r. ⌜ r ≡ writing made (now (first .entry) ++ now (second .entry)) (length (now (out .entry))) ⌝ }
     ensures buffer { λ r. ⌜ now (out .exit)
-        ≡ holding r (fileOf made (now (first .entry) ++ now (second .entry))) (now (out .entry)) ⌝ }
+        ≡ holding (writtenVerdict r) (fileOf made (now (first .entry) ++ now (second .entry))) (now (out .entry)) ⌝ }
 {
     let answer = settle(made, first, second, out.len());
     let Written::Bytes(size) = answer else {
