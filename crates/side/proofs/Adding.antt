@@ -13,6 +13,7 @@ use Rattle.units.specs.declared.Refusal.{Refusal}
 use Rattle.units.specs.declared.Refusal.the-variants.{FormatWrong}
 use Rattle.units.specs.declared.Verdict.{Verdict}
 use Rattle.units.specs.declared.Verdict.the-variants as verdict
+use Rattle.units.specs.Checks.{AllMet}
 use Rattle.formats.specs.Format.{formatRule}
 use Rattle.formats.proofs.Taken.{taken-two}
 use Rattle.tables.specs.declared.Cues.{Cues}
@@ -32,9 +33,9 @@ use Rattle.writer.specs.declared.Written.the-variants.{Refused}
 use Rattle.writer.specs.File.{fileOf, writing, writtenVerdict}
 use Rattle.writer.proofs.Settling.{format-refused}
 use Rattle.side.specs.Side.{isSide}
-use Rattle.side.specs.Adding.{addVerdict, withSong, newFile, addedBy, adding, emptySide}
+use Rattle.side.specs.Adding.{addChecks, addVerdict, withSong, newFile, addedBy, adding, emptySide}
 use Rattle.side.proofs.Songs.{side-says}
-use Rattle.side.proofs.Answers.{Met, verdict-says, place-says}
+use Rattle.side.proofs.Answers.{verdict-says, place-says}
 
 -- ---- a record that is made, and then written
 module _ {g m : Record} (e : g ≡ m) (x : Written) (w : List ℕ) where
@@ -57,17 +58,22 @@ module _ (side : Reading) (w : List ℕ) (song : Reading) (v : List ℕ) (number
 
   -- ---- the song has place
   module _ (f : x ≡ verdict.Accepted) where
-    met : Met side w song number limit
-    met = verdict-says side w song v number limit (sym e ∙ f)
+    met : AllMet (addChecks side w song v number limit)
+    met = verdict-says side w song v number limit (sym e ∙ f) .1
+
+    placed : (side .made .cues .count < 64) × (side .made .frames .0 + song .made .frames .0 ≤ limit .0)
+    unfolding AllMet
+    placed = place-says (side .made) (song .made .frames) limit (met .1 .1 .1 .1 .1 .0)
 
     pub side-stands : isSide (side .made) ≡ true
-    side-stands = side-says side (met .side) .1
+    unfolding AllMet
+    side-stands = side-says side (met .0) .1
 
     pub few-cues : side .made .cues .count < 64
-    few-cues = place-says (side .made) (song .made .frames) limit (met .place) .0
+    few-cues = placed .0
 
     pub frames-fit : Fits w32 (limit .0) → side .made .frames .0 + song .made .frames .0 < 4294967296
-    frames-fit l = let h = l .fits in omega (arith, place-says (side .made) (song .made .frames) limit (met .place) .1)
+    frames-fit l = let h = l .fits in omega (arith, placed .1)
 
 pub ruleset reading-added = (answer-refused, answer-joined, side-stands, few-cues, frames-fit)
 

@@ -1,4 +1,4 @@
--- What an answer of adding says, both ways: a song is taken exactly where each demand is met, and then the new file is written.
+-- What an answer of adding says, both ways: a song is taken exactly where each check is met, and then the new file is written.
 -- Assumes nothing.
 use mathlib.Core.Path.{_≡_, refl, ap}
 use mathlib.Core.Bool.{Bool, true, false, cond}
@@ -6,66 +6,38 @@ use mathlib.Core.List.{List}
 use Prim.Native.Nat.{ℕ, _+_, _≤_, _<_}
 use native.Mathlib.Omega.{arith}
 use lib.Dec.{ltb, leb}
-use borrow.Author.Tests.{ltb-true, leb-true, lt-ltb, le-leb}
+use borrow.Author.Tests.{ltb-true, leb-true, lt-ltb, le-leb, not-true}
 use Rattle.little.specs.Same.{sameBytes}
 use Rattle.lists.proofs.Laws.{and-both}
 use Rattle.units.specs.declared.BytePlace.{BytePlace}
 use Rattle.units.specs.declared.Donation.{Donation}
 use Rattle.units.specs.declared.Frames.{Frames}
-use Rattle.units.specs.declared.Refusal.the-variants.{FormatWrong, SongEmptyOrDifferent, NoPlaceOnSide, AlreadyListed, NotASide}
+use Rattle.units.specs.declared.Refusal.the-variants.{SongEmptyOrDifferent, AlreadyListed}
 use Rattle.units.specs.declared.Verdict.{Verdict}
 use Rattle.units.specs.declared.Verdict.the-variants as verdict
-use Rattle.units.specs.Refusals.{demand}
-use Rattle.units.proofs.Laws.{demand-met}
+use Rattle.units.specs.Checks.{Check, decided, andThen, AllMet}
+use Rattle.units.proofs.Checks.{all-met}
 use Rattle.rules.specs.declared.Record.{Record}
 use Rattle.rules.specs.declared.Reading.{Reading}
 use Rattle.reader.specs.Content.{reading, soundIn, fileFormat, fileFrames}
 use Rattle.writer.specs.declared.Written.{Written}
 use Rattle.writer.specs.declared.Written.the-variants.{Bytes, Refused}
 use Rattle.writer.specs.File.{writing}
-use Rattle.writer.proofs.Settling.{and-met}
-use Rattle.side.specs.Side.{sideRead, songsHeld, isSideFile, songsIn, isListed, listedSound}
+use Rattle.side.specs.Side.{isSideFile, songsIn, isListed, listedSound}
 use Rattle.side.specs.Demands.{Sent, answerTo}
-use Rattle.side.specs.Adding.{suits, onceMore, hasPlace, placeVerdict, addVerdict, newRecord, newSound, addedBy, adding}
+use Rattle.side.specs.Adding.{suits, hasPlace, addChecks, addVerdict, newRecord, newSound, addedBy, adding}
 
--- ---- each demand of the verdict is met, of two files as they were read
-pub record Met (x : Reading) (w : List ℕ) (y : Reading) (number : Donation) (limit : Frames) : Type 0 where
-  pub taken : y .verdict ≡ verdict.Accepted
-  pub side : sideRead x ≡ true
-  pub suited : suits (x .made .format) (y .made .format) ≡ true
-  pub some : leb 1 (y .made .frames .0) ≡ true
-  pub fresh : isListed number (songsHeld (x .made) w) ≡ false
-  pub place : hasPlace (x .made) (y .made .frames) limit ≡ true
-
-module _ (x : Reading) (w : List ℕ) (y : Reading) (v : List ℕ) (number : Donation) (limit : Frames) where
-  abbrev placed : Verdict
-  placed = placeVerdict (x .made) w (y .made .frames) v number limit
-
-  placed-says : placed ≡ verdict.Accepted
-      → (isListed number (songsHeld (x .made) w) ≡ false) × (hasPlace (x .made) (y .made .frames) limit ≡ true)
-  unfolding placeVerdict onceMore
-  placed-says =
-      by (isListed number (songsHeld (x .made) w)) (hasPlace (x .made) (y .made .frames) limit)
-      (onceMore (listedSound number (songsHeld (x .made) w)) v) refl
-    where
-      by : (b c : Bool) (u : Verdict) → onceMore (listedSound number (songsHeld (x .made) w)) v ≡ u
-          → cond b u (demand c NoPlaceOnSide verdict.Accepted) ≡ verdict.Accepted → (b ≡ false) × (c ≡ true)
-      by true c u h e = let z : _≡_ {A = ℕ} 0 1 = cc in absurd (omega arith)
-      by false c u h e = (refl, demand-met c NoPlaceOnSide verdict.Accepted e .0)
-
-  pub verdict-says : addVerdict x w y v number limit ≡ verdict.Accepted → Met x w y number limit
-  unfolding addVerdict
-  verdict-says e =
-      let f : Bool = suits (x .made .format) (y .made .format) in
-      let g : Bool = leb 1 (y .made .frames .0) in
-      let i : Verdict = demand g SongEmptyOrDifferent placed in
-      let j : Verdict = demand f FormatWrong i in
-      let a = and-met (y .verdict) (demand (sideRead x) NotASide j) e in
-      let b = demand-met (sideRead x) NotASide j (a .1) in
-      let c = demand-met f FormatWrong i (b .1) in
-      let d = demand-met g SongEmptyOrDifferent placed (c .1) in
-      let p = placed-says (d .1) in
-      record { taken = a .0; side = b .0; suited = c .0; some = d .0; fresh = p .0; place = p .1 }
+-- ---- a song is accepted where its file is taken and each check is met, of two files as they were read
+pub verdict-says : (x : Reading) (w : List ℕ) (y : Reading) (v : List ℕ) (number : Donation) (limit : Frames)
+    → addVerdict x w y v number limit ≡ verdict.Accepted
+    → (y .verdict ≡ verdict.Accepted) × AllMet (addChecks x w y v number limit)
+unfolding addVerdict
+verdict-says x w y v number limit = by (y .verdict)
+  where
+    by : (u : Verdict) → andThen u (decided (addChecks x w y v number limit)) ≡ verdict.Accepted
+        → (u ≡ verdict.Accepted) × AllMet (addChecks x w y v number limit)
+    by verdict.Accepted e = (refl, all-met (addChecks x w y v number limit) e)
+    by (verdict.Refused r) e = let z : _≡_ {A = ℕ} 0 1 = cc in absurd (omega arith)
 
 -- fewer than 64 songs, and the frames within the limit
 pub place-says : (m : Record) (frames limit : Frames) → hasPlace m frames limit ≡ true
@@ -87,26 +59,34 @@ pub record Taking (s : List ℕ) (x : Sent) : Type 0 where
   pub within : fileFrames s + fileFrames (x .file) ≤ x .limit .0
 
 module _ (s : List ℕ) (x : Sent) where
-  abbrev pub place : Bool
-  place = hasPlace (reading s .made) (reading (x .file) .made .frames) (x .limit)
+  abbrev pub checks : List Check
+  checks = addChecks (reading s) (soundIn s) (reading (x .file)) (soundIn (x .file)) (x .number) (x .limit)
 
   abbrev judged : Verdict
   judged = addVerdict (reading s) (soundIn s) (reading (x .file)) (soundIn (x .file)) (x .number) (x .limit)
 
-  -- in the words of the tests
-  pub taking : reading (x .file) .verdict ≡ verdict.Accepted → isSideFile s ≡ true → suits (fileFormat s) (fileFormat (x .file)) ≡ true
-      → leb 1 (fileFrames (x .file)) ≡ true → isListed (x .number) (songsIn s) ≡ false → place ≡ true → Taking s x
-  taking a b c d e f =
-      let q = place-says (reading s .made) (reading (x .file) .made .frames) (x .limit) f in
-      record { taken = a; side = b; suited = c; some = leb-true 1 (fileFrames (x .file)) d; fresh = e; few = q .0; within = q .1 }
+  pub taking : reading (x .file) .verdict ≡ verdict.Accepted → AllMet checks → Taking s x
+  unfolding AllMet
+  taking a m =
+      let p = m .1 .1 .1 in
+      let q = place-says (reading s .made) (reading (x .file) .made .frames) (x .limit) (p .1 .1 .0) in
+      record {
+        taken = a;
+        side = m .0;
+        suited = m .1 .0;
+        some = leb-true 1 (fileFrames (x .file)) (m .1 .1 .0);
+        fresh = not-true (isListed (x .number) (songsIn s)) (p .1 .0);
+        few = q .0;
+        within = q .1;
+      }
 
   judged-says : judged ≡ verdict.Accepted → Taking s x
   judged-says e =
       let k = verdict-says (reading s) (soundIn s) (reading (x .file)) (soundIn (x .file)) (x .number) (x .limit) e in
-      taking (k .taken) (k .side) (k .suited) (k .some) (k .fresh) (k .place)
+      taking (k .0) (k .1)
 
   judged-taken : Taking s x → judged ≡ verdict.Accepted
-  unfolding addVerdict placeVerdict hasPlace
+  unfolding addVerdict decided hasPlace
   judged-taken k =
       let a = le-leb 1 (fileFrames (x .file)) (k .some) in
       let b = lt-ltb (reading s .made .cues .count) 64 (k .few) in
@@ -134,11 +114,12 @@ module _ (s : List ℕ) (x : Sent) where
   module _ (a : reading (x .file) .verdict ≡ verdict.Accepted) (b : isSideFile s ≡ true)
       (c : suits (fileFormat s) (fileFormat (x .file)) ≡ true) where
     pub empty-added : leb 1 (fileFrames (x .file)) ≡ false → answerTo s x ≡ Refused SongEmptyOrDifferent
-    unfolding adding addVerdict
+    unfolding adding addVerdict decided
     empty-added f = simp (a, b, c, f)
 
-    pub listed-added : {q : Bool} → leb 1 (fileFrames (x .file)) ≡ true → isListed (x .number) (songsIn s) ≡ true
+    pub listed-added : (q : Bool) → leb 1 (fileFrames (x .file)) ≡ true → isListed (x .number) (songsIn s) ≡ true
         → sameBytes (listedSound (x .number) (songsIn s)) (soundIn (x .file)) ≡ q
         → answerTo s x ≡ Refused (cond q AlreadyListed SongEmptyOrDifferent)
-    unfolding adding addVerdict placeVerdict onceMore
-    listed-added f l e = simp (a, b, c, f, l, e)
+    unfolding adding addVerdict decided
+    listed-added true f l e = simp (a, b, c, f, l, e)
+    listed-added false f l e = simp (a, b, c, f, l, e)

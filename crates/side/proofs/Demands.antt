@@ -88,10 +88,10 @@ once-listed s x a l b c = by (leb 1 (fileFrames (x .file))) refl
     by true f =
         record {
           same = λ e.
-              listed-added s x b a c f l
+              listed-added s x b a c true f l
               (ap (λ (v : List ℕ). sameBytes v (soundIn (x .file))) (sym e) ∙ same-itself (soundIn (x .file)));
           other = λ n.
-              listed-added s x b a c f l
+              listed-added s x b a c false f l
               (sym (same-not listed (soundIn (x .file)) (λ e. n (sym e))));
         }
     by false f =

@@ -1,11 +1,11 @@
--- The verdict on adding, in the words of the code: where a number is listed, and each demand in its order. Assumes nothing.
+-- The verdict on adding, in the words of the code: where a number is listed, and each check in its order. Assumes nothing.
 use mathlib.Core.Path.{_≡_, refl, sym, ap, _∙_}
 use mathlib.Core.Bool.{Bool, true, false, not, cond}
 use mathlib.Core.List.{List, [], _∷_, map}
 use Prim.Native.Nat.{ℕ, suc, _+_, _*_, _≤_, _<_}
 use native.Mathlib.Nat.{mul-le-mul}
 use native.Mathlib.Omega.{arith}
-use lib.Dec.{eqb, ltb}
+use lib.Dec.{eqb, ltb, leb}
 use lib.ListN.{length, take, drop, getD, length-map, length-take}
 use lib.Seq.{getD-take}
 use mir.Syntax.{w16, w32, w64}
@@ -16,9 +16,11 @@ use Rattle.lists.specs.Among.{indexIn, has}
 use Rattle.units.specs.declared.Donation.{Donation}
 use Rattle.units.specs.declared.Frames.{Frames}
 use Rattle.units.specs.declared.Refusal.{Refusal}
-use Rattle.units.specs.declared.Refusal.the-variants.{FormatWrong, SongEmptyOrDifferent, NoPlaceOnSide, AlreadyListed, NotASide}
+use Rattle.units.specs.declared.Refusal.the-variants.{SongEmptyOrDifferent, NoPlaceOnSide, AlreadyListed}
 use Rattle.units.specs.declared.Verdict.{Verdict}
 use Rattle.units.specs.declared.Verdict.the-variants.{Accepted, Refused}
+use Rattle.units.specs.Checks.{Check, check, decided, andThen}
+use Rattle.units.proofs.Checks.{check-fails, check-met}
 use Rattle.formats.specs.declared.Format.{Format}
 use Rattle.tables.specs.declared.Cue.{Cue}
 use Rattle.tables.specs.declared.Cues.{Cues}
@@ -32,7 +34,7 @@ use Rattle.tables.proofs.Behind.{names-first}
 use Rattle.rules.specs.declared.Record.{Record}
 use Rattle.rules.specs.declared.Reading.{Reading}
 use Rattle.side.specs.Side.{cueList, playList, isSide, sideRead, framesAt, soundAt, songsOf, songsHeld, isListed, listedSound}
-use Rattle.side.specs.Adding.{suits, onceMore, hasPlace, placeVerdict, addVerdict, withSong}
+use Rattle.side.specs.Adding.{onceMore, hasPlace, placeChecks, addChecks, addVerdict, withSong}
 use Rattle.side.proofs.Songs.{songs-named, side-tiled, lists-long, cues-many, counts-agree, side-says}
 
 -- ---- the sound of a song
@@ -112,19 +114,27 @@ module _ (m : Record) (w : List ℕ) (number : Donation) {found : ℕ} (few : m 
       within = omega (arith, index, many)
 
   module _ (frames : Frames) (v : List ℕ) (limit : Frames) where
-    pub place-listed : {r : Verdict} → found < m .cues .count
-        → r ≡ onceMore (soundAt m w found) v
-        → r ≡ placeVerdict m w frames v number limit
-    unfolding placeVerdict
-    place-listed h q = q ∙ ap (λ (l : List ℕ). onceMore l v) (sound h) ∙ simp (listed, lt-ltb found (m .cues .count) h)
+    pub place-listed : {r : Verdict} → found < m .cues .count → r ≡ onceMore (soundAt m w found) v
+        → r ≡ decided (placeChecks m w frames v number limit)
+    unfolding decided onceMore
+    place-listed h q =
+        q
+        ∙ ap (λ (l : List ℕ). onceMore l v) (sound h)
+        ∙ by (sameBytes (listedSound number (songsHeld m w)) v)
+        ∙ simp (listed, lt-ltb found (m .cues .count) h)
+      where
+        by : (b : Bool) → Refused (cond b AlreadyListed SongEmptyOrDifferent)
+            ≡ cond (not b) (Refused SongEmptyOrDifferent) (Refused AlreadyListed)
+        by true = refl
+        by false = refl
 
     module _ (h : m .cues .count ≤ found) {b : Bool} (p : b ≡ hasPlace m frames limit) where
-      pub place-none : not b ≡ true → Refused NoPlaceOnSide ≡ placeVerdict m w frames v number limit
-      unfolding placeVerdict
+      pub place-none : not b ≡ true → Refused NoPlaceOnSide ≡ decided (placeChecks m w frames v number limit)
+      unfolding decided
       place-none f = simp (listed, le-ltb found (m .cues .count) h, sym p ∙ not-true b f)
 
-      pub place-free : not b ≡ false → Accepted ≡ placeVerdict m w frames v number limit
-      unfolding placeVerdict
+      pub place-free : not b ≡ false → Accepted ≡ decided (placeChecks m w frames v number limit)
+      unfolding decided
       place-free f = simp (listed, le-ltb found (m .cues .count) h, sym p ∙ not-false b f)
 
 module _ (old v : List ℕ) {x : List ℕ} (o : x ≡ old) {b : Bool} (e : b ≡ sameBytes x v) where
@@ -138,36 +148,28 @@ module _ (old v : List ℕ) {x : List ℕ} (o : x ≡ old) {b : Bool} (e : b ≡
 
 pub ruleset placing = (product-fits, frames-part, array-long, place-listed, place-none, place-free, once-same, once-other)
 
--- ---- the demands in their order
+-- ---- the song file's refusals, and then the checks in their order
 module _ (side : Reading) (w : List ℕ) (song : Reading) (v : List ℕ) (number : Donation) (limit : Frames) where
   pub song-refused : {r : Refusal} → song .verdict ≡ Refused r → song .verdict ≡ addVerdict side w song v number limit
   unfolding addVerdict
   song-refused e = simp e
 
-  module _ (e : song .verdict ≡ Accepted) {a : Bool} (f : a ≡ sideRead side) where
-    pub no-side : not a ≡ true → Refused NotASide ≡ addVerdict side w song v number limit
-    unfolding addVerdict
-    no-side g = simp (e, sym f ∙ not-true a g)
+  pub song-taken : {r : Verdict} → song .verdict ≡ Accepted → r ≡ decided (addChecks side w song v number limit)
+      → r ≡ addVerdict side w song v number limit
+  unfolding addVerdict
+  song-taken e f = f ∙ sym (ap (λ (u : Verdict). andThen u (decided (addChecks side w song v number limit))) e)
 
-    module _ (g : not a ≡ false) {b : Bool} (h : b ≡ suits (side .made .format) (song .made .format)) where
-      pub unsuited : not b ≡ true → Refused FormatWrong ≡ addVerdict side w song v number limit
-      unfolding addVerdict
-      unsuited k = simp (e, sym f ∙ not-false a g, sym h ∙ not-true b k)
+module _ (n : ℕ) (r : Refusal) (cs : List Check) where
+  pub no-frames : {least : ℕ} → n < least → least ≤ 1 → Refused r ≡ decided (check (leb 1 n) r ∷ cs)
+  no-frames h k = check-fails r cs refl (ap not (lt-leb 1 n (omega arith)))
 
-      module _ (k : not b ≡ false) where
-        pub no-frames : {least : ℕ} → song .made .frames .0 < least → least ≤ 1 → Refused SongEmptyOrDifferent ≡ addVerdict side w song v number limit
-        unfolding addVerdict
-        no-frames l q = simp (e, sym f ∙ not-false a g, sym h ∙ not-false b k, lt-leb 1 (song .made .frames .0) (omega arith))
-
-        pub some-frames : {r : Verdict} → 1 ≤ song .made .frames .0 → r ≡ placeVerdict (side .made) w (song .made .frames) v number limit
-            → r ≡ addVerdict side w song v number limit
-        unfolding addVerdict
-        some-frames l q = q ∙ simp (e, sym f ∙ not-false a g, sym h ∙ not-false b k, le-leb 1 (song .made .frames .0) l)
+  pub some-frames : {v : Verdict} → 1 ≤ n → v ≡ decided cs → v ≡ decided (check (leb 1 n) r ∷ cs)
+  some-frames h = check-met r cs refl (ap not (le-leb 1 n h))
 
 pub read-is-side : (side : Reading) {a : Bool} → a ≡ sideRead side → not a ≡ false → isSide (side .made) ≡ true
 read-is-side side {a} e f = side-says side (sym e ∙ not-false a f) .1
 
-pub ruleset settling = (song-refused, no-side, unsuited, no-frames, some-frames, read-is-side)
+pub ruleset settling = (song-refused, song-taken, check-fails, check-met, no-frames, some-frames, read-is-side)
 
 -- ---- the record with one song more
 pub song-made : (m : Record) (number : Donation) (frames : Frames) {c : Cues} {p : Playlist}

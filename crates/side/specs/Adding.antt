@@ -1,7 +1,7 @@
 -- Adding a song to a side: the verdict, the file, and the answer. Assumes nothing.
 use Prim.Native.Nat.{ℕ, _+_, _*_}
-use mathlib.Core.Bool.{Bool, cond, _&&_}
-use mathlib.Core.List.{List, _++_}
+use mathlib.Core.Bool.{Bool, not, cond, _&&_}
+use mathlib.Core.List.{List, [], _∷_, _++_}
 use lib.Dec.{eqb, ltb, leb}
 use Rattle.little.specs.Same.{sameBytes}
 use Rattle.units.specs.declared.Donation.{Donation}
@@ -9,7 +9,7 @@ use Rattle.units.specs.declared.Frames.{Frames}
 use Rattle.units.specs.declared.Refusal.the-variants.{FormatWrong, SongEmptyOrDifferent, NoPlaceOnSide, AlreadyListed, NotASide}
 use Rattle.units.specs.declared.Verdict.{Verdict}
 use Rattle.units.specs.declared.Verdict.the-variants as verdict
-use Rattle.units.specs.Refusals.{demand}
+use Rattle.units.specs.Checks.{Check, check, decided, andThen}
 use Rattle.formats.specs.declared.Format.{Format}
 use Rattle.tables.specs.Cues.{noCues}
 use Rattle.tables.specs.Plays.{noPlays}
@@ -19,7 +19,7 @@ use Rattle.rules.specs.declared.Reading.{Reading}
 use Rattle.reader.specs.Content.{reading, soundIn}
 use Rattle.writer.specs.declared.Written.{Written}
 use Rattle.writer.specs.declared.Written.the-variants.{Refused}
-use Rattle.writer.specs.File.{andThen, fileOf, writing}
+use Rattle.writer.specs.File.{fileOf, writing}
 use Rattle.side.specs.Side.{sixteenBit, sideRead, songsHeld, isListed, listedSound}
 
 -- ---- the verdict
@@ -36,21 +36,25 @@ onceMore listed sound = verdict.Refused (cond (sameBytes listed sound) AlreadyLi
 unfoldable pub hasPlace : Record → Frames → Frames → Bool
 hasPlace m frames limit = ltb (m .cues .count) 64 && leb (m .frames .0 + frames .0) (limit .0)
 
--- a listed number; then 17. The side is a record with its sound, the song so many frames of sound
-unfoldable pub placeVerdict : Record → List ℕ → Frames → List ℕ → Donation → Frames → Verdict
-placeVerdict m w frames v number limit =
-    cond (isListed number (songsHeld m w)) (onceMore (listedSound number (songsHeld m w)) v)
-    (demand (hasPlace m frames limit) NoPlaceOnSide verdict.Accepted)
+-- the checks on a song that suits: a listed number, then 17. The side is a record with its sound, the song so many frames of sound
+abbrev pub placeChecks : Record → List ℕ → Frames → List ℕ → Donation → Frames → List Check
+placeChecks m w frames v number limit =
+    check (not (isListed number (songsHeld m w) && sameBytes (listedSound number (songsHeld m w)) v)) AlreadyListed
+    ∷ check (not (isListed number (songsHeld m w))) SongEmptyOrDifferent
+    ∷ check (hasPlace m frames limit) NoPlaceOnSide
+    ∷ []
 
--- the song file's refusals 1 to 13; 19 if the side file is refused or is no side; 9; 16 for no frames; then as above. Both files
--- as they were read, each with its sound
+-- 19 if the side file is refused or is no side; 9; 16 for no frames; then as above. Both files as they were read, each with its sound
+abbrev pub addChecks : Reading → List ℕ → Reading → List ℕ → Donation → Frames → List Check
+addChecks side w song v number limit =
+    check (sideRead side) NotASide
+    ∷ check (suits (side .made .format) (song .made .format)) FormatWrong
+    ∷ check (leb 1 (song .made .frames .0)) SongEmptyOrDifferent
+    ∷ placeChecks (side .made) w (song .made .frames) v number limit
+
+-- the song file's refusals 1 to 13, then those
 unfoldable pub addVerdict : Reading → List ℕ → Reading → List ℕ → Donation → Frames → Verdict
-addVerdict side w song v number limit =
-    andThen (song .verdict)
-    (demand (sideRead side) NotASide
-    (demand (suits (side .made .format) (song .made .format)) FormatWrong
-    (demand (leb 1 (song .made .frames .0)) SongEmptyOrDifferent
-    (placeVerdict (side .made) w (song .made .frames) v number limit))))
+addVerdict side w song v number limit = andThen (song .verdict) (decided (addChecks side w song v number limit))
 
 -- ---- the file
 

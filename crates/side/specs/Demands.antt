@@ -12,9 +12,9 @@ use Rattle.units.specs.declared.BytePlace.{BytePlace}
 use Rattle.units.specs.declared.Donation.{Donation}
 use Rattle.units.specs.declared.Frames.{Frames}
 use Rattle.units.specs.declared.Refusal.the-variants.{SongEmptyOrDifferent, AlreadyListed}
-use Rattle.units.specs.declared.Verdict.{Verdict}
 use Rattle.units.specs.declared.Verdict.the-variants as verdict
-use Rattle.units.specs.Refusals.{fileLimit, numberOf}
+use Rattle.units.specs.Refusals.{fileLimit}
+use Rattle.units.specs.Checks.{numberOr}
 use Rattle.formats.specs.declared.Format.{Format}
 use Rattle.reader.specs.Content.{reading, soundIn, fileFormat, fileFrames}
 use Rattle.writer.specs.declared.Written.{Written}
@@ -225,16 +225,11 @@ EmptyNumbered =
 
 -- ---- the number of an answer, in the order of checks and the numbers of document 01; 0 where the song is added
 
--- the number of a refusal, or else n
-abbrev pub orElse : Verdict → ℕ → ℕ
-orElse verdict.Accepted n = n
-orElse (verdict.Refused r) n = numberOf r
-
 unfoldable pub AddNumbered : Type 0
 AddNumbered =
     (s t : List ℕ) (number : Donation) (limit : Frames) (room : ℕ)
     → writtenNumber (adding s t number limit room)
-    ≡ orElse (reading t .verdict)
+    ≡ numberOr (reading t .verdict)
     (cond (not (isSideFile s)) 19
     (cond (not (suits (fileFormat s) (fileFormat t))) 9
     (cond (eqb (fileFrames t) 0) 16

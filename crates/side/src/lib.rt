@@ -22,10 +22,11 @@ ghost use mathlib.Core.List.{[], _++_};
 ghost use Prim.Native.Nat.{_+_, _≤_, _<_};
 ghost use lib.Dec.{eqb};
 ghost use lib.ListN.{length, take};
+ghost use Rattle.units.specs.Checks.{decided};
 ghost use Rattle.little.specs.Writing.{holding};
 ghost use Rattle.writer.specs.File.{writing, fileOf, writtenVerdict};
 ghost use Rattle.side.specs.Side.{sixteenBit, tiled, isSide, sideRead, framesAt, soundAt};
-ghost use Rattle.side.specs.Adding.{suits, hasPlace, onceMore, placeVerdict, addVerdict, withSong, newFile, addedBy, adding, emptySide};
+ghost use Rattle.side.specs.Adding.{suits, hasPlace, onceMore, placeChecks, addVerdict, withSong, newFile, addedBy, adding, emptySide};
 
 // ---- a side
 
@@ -190,7 +191,7 @@ fn settle_place(
     limit: Frames,
 ) -> Verdict
     requires { ⌜ (made .cues .count ≤ 64) × (isSide made ≡ true) ⌝ }
-    ensures answer { λ r. ⌜ r ≡ placeVerdict made (now (sound .entry)) frames (now (added .entry)) number limit ⌝ }
+    ensures answer { λ r. ⌜ r ≡ decided (placeChecks made (now (sound .entry)) frames (now (added .entry)) number limit) ⌝ }
 {
     let cues = made.cues;
     let found = tables::find_cue(cues, number);

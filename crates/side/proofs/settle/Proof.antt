@@ -1,4 +1,4 @@
--- One law for each demand, in the order of the definition.
+-- The song file first, then one check after the other, in the order of the definition.
 use Rattle.side.proofs.Placing.{settling}
 use borrow.Author.Needs.{needs}
 use Rattle.side.proofs.settle.Statement.{statement}
