@@ -72,7 +72,7 @@ module _ {m : Record} {w : List ℕ} (k : Standing m w) where
     play = record { name = number; length = frames; times = 1 }
 
     abbrev song : List ℕ → Song
-    song u = record { number = number; position = m .frames; place = m .frames; length = frames; sound = u }
+    song u = record { number = number; position = m .frames; place = m .frames; frames = frames; sound = u }
 
     few-plays : m .playlist .count < 64
     few-plays = omega (arith, counts-same)

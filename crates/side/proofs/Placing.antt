@@ -2,7 +2,7 @@
 use mathlib.Core.Path.{_≡_, refl, sym, ap, _∙_}
 use mathlib.Core.Bool.{Bool, true, false, not, cond}
 use mathlib.Core.List.{List, [], _∷_, map}
-use Prim.Native.Nat.{ℕ, suc, _+_, _*_, _≤_, _<_}
+use Prim.Native.Nat.{ℕ, suc, _+_, _*_, _≤_, _<_, min}
 use native.Mathlib.Nat.{mul-le-mul}
 use native.Mathlib.Omega.{arith}
 use lib.Dec.{eqb, ltb, leb}
@@ -13,6 +13,7 @@ use mir.Val.{Fits}
 use borrow.Author.Tests.{lt-ltb, le-ltb, lt-leb, le-leb, not-true, not-false}
 use Rattle.little.specs.Same.{sameBytes}
 use Rattle.lists.specs.Among.{indexIn, has}
+use Rattle.units.specs.declared.BytePlace.{BytePlace}
 use Rattle.units.specs.declared.Donation.{Donation}
 use Rattle.units.specs.declared.Frames.{Frames}
 use Rattle.units.specs.declared.Refusal.{Refusal}
@@ -33,7 +34,7 @@ use Rattle.tables.proofs.Putting.{array-long}
 use Rattle.tables.proofs.Behind.{names-first}
 use Rattle.rules.specs.declared.Record.{Record}
 use Rattle.rules.specs.declared.Reading.{Reading}
-use Rattle.side.specs.Side.{cueList, playList, isSide, sideRead, framesAt, soundAt, songsOf, songsHeld, isListed, listedSound}
+use Rattle.side.specs.Side.{cueList, playList, isSide, sideRead, bytesOfFrames, framesAt, soundAt, songsOf, songsHeld, isListed, listedSound}
 use Rattle.side.specs.Adding.{onceMore, hasPlace, placeChecks, addChecks, addVerdict, withSong}
 use Rattle.side.proofs.Songs.{songs-named, side-tiled, lists-long, cues-many, counts-agree, side-says}
 
@@ -44,10 +45,14 @@ product-fits {a} {b} h k =
     let m : b ≤ 4294967295 = omega (arith, k .fits) in
     record { fits = omega (arith, mul-le-mul l m) }
 
-pub frames-part : (f : Format) (w : List ℕ) (place long : Frames) {r : List ℕ} → r ≡ take (f .align * long .0) (drop (f .align * place .0) w)
-    → r ≡ framesAt f w place long
+pub frames-part : (f : Format) (w : List ℕ) (place frames : Frames) {from size : BytePlace} {r : List ℕ}
+    → from .0 ≡ bytesOfFrames f (place .0) → size .0 ≡ bytesOfFrames f (frames .0) → r ≡ take (size .0) (drop (from .0) w)
+    → r ≡ framesAt f w place frames
 unfolding framesAt
-frames-part f w place long e = e
+frames-part f w place frames e g h = h ∙ (λ i. take (g i) (drop (e i) w))
+
+pub part-place : (n q : ℕ) {from : BytePlace} {k p : ℕ} → from .0 ≡ k → p ≡ q + min (from .0) n → p ≡ q + min k n
+part-place n q e h = h ∙ ap (λ (j : ℕ). q + min j n) e
 
 -- the song that has a number is the one at its index among the names
 songs-sound : (n : Donation) (f : Format) (w : List ℕ) (cs : List Cue) (ps : List Play) → length cs ≡ length ps
@@ -146,7 +151,9 @@ module _ (old v : List ℕ) {x : List ℕ} (o : x ≡ old) {b : Bool} (e : b ≡
   unfolding onceMore
   once-other f = simp (← o, sym e ∙ f)
 
-pub ruleset placing = (product-fits, frames-part, array-long, place-listed, place-none, place-free, once-same, once-other)
+pub ruleset parting = (product-fits, frames-part, part-place)
+
+pub ruleset placing = (array-long, place-listed, place-none, place-free, once-same, once-other)
 
 -- ---- the song file's refusals, and then the checks in their order
 module _ (side : Reading) (w : List ℕ) (song : Reading) (v : List ℕ) (number : Donation) (limit : Frames) where

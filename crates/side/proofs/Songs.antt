@@ -127,7 +127,7 @@ module _ (f : Format) (w v : List ℕ) where
       let within : f .align * n ≤ f .align * frames = mul-le-mul-left (f .align) (r .0) in
       let t = song-stays (d .place) (q .length) (omega arith) in (
         omega (arith, r .0),
-        λ i. (record { number = d .name; position = d .position; place = d .place; length = q .length; sound = t i } ∷ r .1 i),
+        λ i. (record { number = d .name; position = d .position; place = d .place; frames = q .length; sound = t i } ∷ r .1 i),
       ))
       cs ps at e .1
 

@@ -20,7 +20,7 @@ use Rattle.reader.specs.Content.{reading, soundIn, fileFormat, fileFrames}
 use Rattle.writer.specs.declared.Written.{Written}
 use Rattle.writer.specs.declared.Written.the-variants.{Bytes, Refused}
 use Rattle.writer.specs.File.{sizeOf, fileOf, writing, writtenNumber}
-use Rattle.side.specs.Side.{Song, isSideFile, songsIn, isListed, listedSound}
+use Rattle.side.specs.Side.{Song, bytesOfFrames, isSideFile, songsIn, isListed, listedSound}
 use Rattle.side.specs.Adding.{suits, newFile, adding, emptySide}
 
 -- ---- a song as it is sent: its file, the number that it was donated under, the limit of the side's frames, and the room of the
@@ -51,7 +51,7 @@ songFrom at x =
       number = x .number;
       position = record { 0 = at };
       place = record { 0 = at };
-      length = reading (x .file) .made .frames;
+      frames = reading (x .file) .made .frames;
       sound = soundIn (x .file);
     }
 
@@ -64,7 +64,7 @@ pub record Adds (s : List ℕ) (x : Sent) (n : BytePlace) : Type 0 where
   pub answer : answerTo s x ≡ Bytes n
 
 -- the file that adding x to a side file s makes, n bytes long: a side of the same format, whose running order is the old one with
--- one song more at the end; so every old song keeps its number, position, place, length and its sound, byte for byte
+-- one song more at the end; so every old song keeps its number, position, place, frames and its sound, byte for byte
 pub record Grown (s : List ℕ) (x : Sent) (n : BytePlace) : Type 0 where
   pub long : n ≡ sizeOf (fileWith s x)
   pub bytes : T (areBytes (fileWith s x))
@@ -80,7 +80,7 @@ Grows = (s : List ℕ) (x : Sent) (n : BytePlace) → Adds s x n → Grown s x n
 -- how long the file of a side with songs is: 68 bytes for the first twelve, the format, the heads of the chunks and the two counts,
 -- 36 for the cue and the entry of each song, and the sound
 abbrev pub sideSize : Format → ℕ → ℕ → ℕ
-sideSize f songs frames = 68 + 36 * songs + f .align * frames
+sideSize f songs frames = 68 + 36 * songs + bytesOfFrames f frames
 
 -- and it is within the limits
 pub record Limited (s : List ℕ) (x : Sent) : Type 0 where

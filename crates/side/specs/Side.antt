@@ -52,17 +52,21 @@ sideRead r = sideBy (r .verdict) (r .made)
 
 -- ---- its songs
 
--- a song: its number, its position in the order of playing, its place, its length, and its sound, byte for byte
+-- a song: its number, its position in the order of playing, its place, its frames, and its sound, byte for byte
 pub record Song : Type 0 where
   pub number : Donation
   pub position : Frames
   pub place : Frames
-  pub length : Frames
+  pub frames : Frames
   pub sound : List ℕ
+
+-- how many bytes so many frames of PCM are
+abbrev pub bytesOfFrames : Format → ℕ → ℕ
+bytesOfFrames f frames = f .align * frames
 
 -- so many frames of a sound w from a place on
 unfoldable pub framesAt : Format → List ℕ → Frames → Frames → List ℕ
-framesAt f w place length = take (f .align * length .0) (drop (f .align * place .0) w)
+framesAt f w place frames = take (bytesOfFrames f (frames .0)) (drop (bytesOfFrames f (place .0)) w)
 
 abbrev pub songOf : Format → List ℕ → Cue → Play → Song
 songOf f w c p =
@@ -70,7 +74,7 @@ songOf f w c p =
       number = c .name;
       position = c .position;
       place = c .place;
-      length = p .length;
+      frames = p .length;
       sound = framesAt f w (c .place) (p .length);
     }
 

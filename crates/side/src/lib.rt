@@ -19,13 +19,14 @@ use writer::Written;
 ghost use mathlib.Core.Path.{_≡_};
 ghost use mathlib.Core.Bool.{true, _&&_};
 ghost use mathlib.Core.List.{[], _++_};
-ghost use Prim.Native.Nat.{_+_, _≤_, _<_};
+ghost use Prim.Native.Nat.{_+_, _≤_, _<_, min};
 ghost use lib.Dec.{eqb};
-ghost use lib.ListN.{length, take};
+ghost use lib.ListN.{length, take, getD};
 ghost use Rattle.units.specs.Checks.{decided};
 ghost use Rattle.little.specs.Writing.{holding};
 ghost use Rattle.writer.specs.File.{writing, fileOf, writtenVerdict};
-ghost use Rattle.side.specs.Side.{sixteenBit, tiled, isSide, sideRead, framesAt, soundAt};
+ghost use Rattle.tables.specs.Cues.{noCue};
+ghost use Rattle.side.specs.Side.{sixteenBit, tiled, isSide, sideRead, bytesOfFrames, framesAt, soundAt};
 ghost use Rattle.side.specs.Adding.{suits, hasPlace, onceMore, placeChecks, addVerdict, withSong, newFile, addedBy, adding, emptySide};
 
 // ---- a side
@@ -141,22 +142,32 @@ fn has_place(made: Record, frames: Frames, limit: Frames) -> bool
     made.frames.0 as u64 + frames.0 as u64 <= limit.0 as u64
 }
 
-// The sound of so many frames from a place on, that very part of a sound.
-fn frames_at(format: Format, sound: &[u8], place: Frames, length: Frames) -> &[u8]
-    ensures part { λ r. ⌜ now r ≡ framesAt format (now (sound .entry)) place length ⌝ }
+// How many bytes so many frames of PCM are.
+fn frames_size(format: Format, frames: Frames) -> BytePlace
+    ensures size { λ r. ⌜ r .0 ≡ bytesOfFrames format (frames .0) ⌝ }
 {
-    let frame = format.align as usize;
-    little::bytes_from(
-        sound,
-        BytePlace(frame * place.0 as usize),
-        BytePlace(frame * length.0 as usize),
-    )
+    BytePlace(format.align as usize * frames.0 as usize)
 }
 
-// The sound of the song at index i of a side.
+// The sound of so many frames from a place on, that very part of a sound.
+fn frames_at(format: Format, sound: &[u8], place: Frames, frames: Frames) -> &[u8]
+    ensures part { λ r. ⌜ now r ≡ framesAt format (now (sound .entry)) place frames ⌝ }
+    ensures lent { λ r. ⌜ r .ptr .0 ≡ sound .entry .ptr .0 ⌝ }
+    ensures place { λ r. ⌜ r .ptr .1
+        ≡ sound .entry .ptr .1 + min (bytesOfFrames format (place .0)) (length (now (sound .entry))) ⌝ }
+{
+    let from = frames_size(format, place);
+    let size = frames_size(format, frames);
+    little::bytes_from(sound, from, size)
+}
+
+// The sound of the song at index i of a side, that very part of its sound.
 fn song_sound(made: Record, sound: &[u8], i: usize) -> &[u8]
     requires { ⌜ i < 64 ⌝ }
     ensures part { λ r. ⌜ now r ≡ soundAt made (now (sound .entry)) i ⌝ }
+    ensures lent { λ r. ⌜ r .ptr .0 ≡ sound .entry .ptr .0 ⌝ }
+    ensures place { λ r. ⌜ r .ptr .1 ≡ sound .entry .ptr .1
+        + min (bytesOfFrames (made .format) (getD (made .cues .list) i noCue .place .0)) (length (now (sound .entry))) ⌝ }
 {
     let format = made.format;
     let cues = made.cues;

@@ -1,5 +1,5 @@
--- The part of the sound is the definition itself; the products fit.
-use Rattle.side.proofs.Placing.{placing}
+-- The part of the sound is the definition itself, and stands where it says.
+use Rattle.side.proofs.Placing.{parting}
 use borrow.Author.Needs.{needs}
 use Rattle.side.proofs.frames_at.Statement.{statement}
 use Rattle.side.proofs.frames_at.Tie as tie
@@ -7,6 +7,4 @@ use Rattle.side.proofs.frames_at.Tie as tie
 pub frames-at-spec : {M : Type 1} → statement M
 frames-at-spec =
     tie.close
-    (tie.spec (λ c. search (needs, placing)) (λ c. search (needs, placing)) (λ c. search (needs, placing))
-    (λ c. search (needs, placing)) (λ c. search (needs, placing)) (λ c κs. search (needs, placing))
-    (λ c. search (needs, placing)))
+    (tie.spec (λ c κs. search needs) (λ c κs. search needs) (λ c κs. search needs) (λ c. search (needs, parting)))
