@@ -2,25 +2,29 @@
 -- Assumes nothing.
 use mathlib.Core.Path.{_≡_, refl, sym, ap, _∙_, subst}
 use mathlib.Core.Bool.{true}
-use mathlib.Core.List.{List}
+use mathlib.Core.List.{List, [], _∷_}
 use Prim.Native.Nat.{ℕ, _+_, _-_, _*_, _/_, _%_, _<_}
 use native.Mathlib.Nat.{mul-div-cancel, mod-lt, div-add-mod'}
 use native.Mathlib.Omega.{arith}
 use lib.IntN.{ℤ, pos}
 use lib.ListN.{length, getD}
 use Rattle.lists.proofs.Laws.{every-all}
+use Rattle.units.specs.declared.BytePlace.{BytePlace}
 use Rattle.units.specs.declared.Frames.{Frames}
+use Rattle.units.specs.Checks.{decided}
 use Rattle.formats.specs.declared.Format.{Format}
 use Rattle.formats.specs.Frames.{Sounding}
 use Rattle.rules.specs.declared.Record.{Record}
-use Rattle.reader.specs.Content.{Content, holds}
+use Rattle.reader.specs.Content.{Content, holds, soundOf, soundIn}
 use Rattle.reader.proofs.Kept.{content-kept}
-use Rattle.ima_code.specs.Quality.{Faithful}
+use Rattle.ima_code.specs.Quality.{Sixteen, Later}
+use Rattle.ima_code.proofs.Machine.{sixteen-none, sixteen-more}
+use Rattle.ima_code.proofs.Quality.{in-words}
 use Rattle.ima_block.specs.Block.{imaSamples, imaFrames, imaHeadersValid}
 use Rattle.encode.specs.declared.Coded.{Coded}
 use Rattle.encode.specs.declared.Encoded.the-variants.{Blocks}
-use Rattle.encode.specs.Encoding.{blocksFor, encodedBytes, encodeVerdict}
-use Rattle.encode.specs.Answer.{encoding}
+use Rattle.encode.specs.Encoding.{codable, blocksFor, encodedBytes, encodeVerdict}
+use Rattle.encode.specs.Answer.{codedOf, encoding}
 use Rattle.encode.specs.Demands.{frameOf, blockOfBytes, heardAt, Heard, Quality}
 use Rattle.encode.proofs.Settling.{Codable}
 use Rattle.encode.proofs.Answers.{Settled, settled-says}
@@ -34,10 +38,10 @@ use Rattle.writer.proofs.Demands.{bytes-say, content-written}
 use Rattle.writer.proofs.Demands as written
 use Rattle.sound_data.specs.Sound.{channelSound, blockFrames, blockValid, blockCount, blockAt, blockSound, wholeSound, dataValid}
 use Rattle.sound_data.proofs.Whole.{whole-long, frame-of-whole}
-use Rattle.decode.specs.Decoding.{wholeAnswer, decoding, contentSound, fileSound}
+use Rattle.decode.specs.Decoding.{wholeVerdict, decodedBy, wholeAnswer, decoding, contentSound, fileSound}
 use Rattle.decode.proofs.Checks.{whole-valid}
 use Rattle.approval.specs.Approval.{samplesOf, approvalFormat, approvalRecord}
-use Rattle.approval.specs.Demands.{recordFor, RulesHold, Approved, WholeWay, CopyWritten}
+use Rattle.approval.specs.Demands.{recordFor, RulesHold, stepAfter, Approved, WholeWay, CopyWritten, Met}
 use Rattle.approval.proofs.Rules.{samples-per, codable-is, blocks-are, rules-hold}
 use Rattle.approval.proofs.Sending.{kept-same, record-fits, file-below}
 
@@ -112,36 +116,45 @@ module _ (s : List ℤ) (c rate a : ℕ) (v : Codable c a) where
 
 -- ---- the file
 pub approved : Approved
-unfolding Approved approvalRecord approvalFormat Quality decoding fileSound frameOf
-approved s c rate a room most w file z e held enough =
+unfolding Approved approvalFormat Quality decoding fileSound frameOf soundIn
+approved s c rate a room most w m file z e form count held enough =
     let t : Settled (length s) c a room = encoded-says s c a room w e in
     let bytes : List ℕ = encodedBytes c a s in
     let q : Heard s c a bytes (w .left .0) (w .right .0) = quality s c a room w z e in
-    let kept = content-kept file (sym held) in
+    let kept : Sounding (approvalFormat c rate a) (record { 0 = length s / c }) bytes =
+    rw (sym form, sym count) (content-kept file (sym held)) in
     let size : length s / c * c ≡ length s = omega (arith, div-add-mod' (length s) c, t .whole) in
     let same : (ch f : ℕ) → ch < c → f < length s / c
     → frameOf c (fileSound file) ch f ≡ heardAt c a bytes ch f .last =
     λ ch f l h.
     ap (λ (x : Content). getD (contentSound x) (c * f + ch) (pos 0)) held
+    ∙ (λ i. getD (wholeSound (form i) (count i .0) bytes) (c * f + ch) (pos 0))
     ∙ frame-heard s c rate a (t .valid) q kept ch f l h in
+    let demand : (ch f : ℕ) → ch < c → f < length s / c → 0 < f % imaSamples c a
+    → Later (frameOf c s ch f) (frameOf c (fileSound file) ch f) (frameOf c (fileSound file) ch (f - 1)) (stepAfter c a s ch (f - 1)) =
+    λ ch f l h g. rw (same ch f l h, same ch (f - 1) l (omega arith)) (in-words (q .later ch f l h g)) in
     record {
+      sound = ap soundOf held;
       frames =
           ap (λ (x : Content). wholeAnswer x most) held
+          ∙ (λ i. decodedBy (wholeVerdict (form i) (count i .0) bytes most) (count i .0))
           ∙ sym (whole-valid (approvalFormat c rate a) (length s / c) bytes most (omega arith) {valid = true}
           (sym (headers-valid s c rate a (t .valid) q)) refl);
-      long = ap (λ (x : Content). length (contentSound x)) held ∙ whole-long kept ∙ size;
+      long =
+          ap (λ (x : Content). length (contentSound x)) held ∙ (λ i. length (wholeSound (form i) (count i .0) bytes))
+          ∙ whole-long kept ∙ size;
       decoded = same;
       opening = λ ch f l h g. same ch f l h ∙ q .opening ch f l h g;
-      later = λ ch f l h g.
-          subst (λ (y : ℤ). Faithful (heardAt c a bytes ch (f - 1)) (frameOf c s ch f) y) (sym (same ch f l h))
-          (q .later ch f l h g);
+      close = λ ch f l h g. demand ch f l h g .close;
+      nearer = λ ch f l h g. demand ch f l h g .nearer;
+      between = λ ch f l h g. demand ch f l h g .between;
       succession = q .succession;
       quality = q;
     }
 
 -- ---- the whole way
 pub whole-way : WholeWay
-unfolding WholeWay Approved
+unfolding WholeWay Approved approvalRecord
 whole-way s c rate a room size most told n z e put enough =
     let m = recordFor s c rate a in
     let w : List ℕ = encodedBytes c a s in
@@ -150,7 +163,7 @@ whole-way s c rate a room size most told n z e put enough =
     let k = settling.settled-says m w size v in
     let fits = record-fits c rate a frames (k .rules) (sound-limit m w size v) in
     let held = content-written m w size n fits put ∙ ap (λ (x : Record). holds x w) (kept-same c rate a frames) in
-    approved s c rate a room most told (fileOf m w) z e held enough
+    approved s c rate a room most told m (fileOf m w) z e refl refl held enough
 
 pub sent : CopyWritten
 unfolding CopyWritten RulesHold
@@ -160,3 +173,19 @@ sent s c rate a room size told e h g fits =
     let w : List ℕ = encodedBytes c a s in
     written.accepted m w size (rules-hold s c rate a (codable-is (t .valid)) h g)
     (file-below s c rate a (t .valid) (t .small)) fits
+
+-- ---- the premises can be met
+abbrev two : List ℤ
+two = pos 0 ∷ pos 13 ∷ []
+
+two-taken : encoding two 1 12 12 ≡ Blocks (codedOf 1 12 two)
+unfolding encoding encodeVerdict decided codable blocksFor imaSamples
+two-taken = refl
+
+pub met : Met
+unfolding Met WholeWay CopyWritten
+met size h =
+    let n : BytePlace = record { 0 = length (fileOf (recordFor two 1 8000 12) (encodedBytes 1 12 two)) } in
+    let z : Sixteen two = sixteen-more (omega arith) (sixteen-more (omega arith) sixteen-none) in
+    let put = sent two 1 8000 12 12 size (codedOf 1 12 two) two-taken (omega arith) (omega arith) h in
+    (put, whole-way two 1 8000 12 12 size 2 (codedOf 1 12 two) n z two-taken put (omega arith))

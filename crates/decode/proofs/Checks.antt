@@ -14,6 +14,7 @@ use Rattle.little.specs.Writing.{front}
 use Rattle.little.proofs.Tests.{tests}
 use Rattle.lists.proofs.Laws.{and-both}
 use Rattle.units.specs.declared.Refusal.the-variants.{OutputTooSmall, BlockHeaderWrong, NoSuchBlock}
+use Rattle.units.specs.Checks.{decided}
 use Rattle.formats.specs.declared.Format.{Format}
 use Rattle.formats.specs.Frames.{needsFact}
 use Rattle.sound_data.specs.Sound.{blockFrames, blockValid, blockCount, blockAt, hasBlock, blockSound, dataValid}
@@ -36,16 +37,16 @@ block-fits f g = room-fits (omega (arith, f .fits)) (le-of-lt (g .fits))
 -- ---- 14, then 15 for any block
 module _ (f : Format) (n : ℕ) (w : List ℕ) (room : ℕ) where
   pub whole-small : room < n * f .channels → Refused OutputTooSmall ≡ decodedBy (wholeVerdict f n w room) n
-  unfolding wholeVerdict
+  unfolding wholeVerdict decided
   whole-small h = simp tests
 
   module _ (h : n * f .channels ≤ room) {valid : Bool} (e : valid ≡ dataValid f w) where
     pub whole-wrong : not valid ≡ true → Refused BlockHeaderWrong ≡ decodedBy (wholeVerdict f n w room) n
-    unfolding wholeVerdict
+    unfolding wholeVerdict decided
     whole-wrong t = let u : dataValid f w ≡ false = sym e ∙ not-true valid t in simp (tests, u)
 
     pub whole-valid : not valid ≡ false → Frames (record { 0 = n }) ≡ decodedBy (wholeVerdict f n w room) n
-    unfolding wholeVerdict
+    unfolding wholeVerdict decided
     whole-valid t = let u : dataValid f w ≡ true = sym e ∙ not-false valid t in simp (tests, u)
 
 pub is-valid : (b : Bool) {valid : Bool} → valid ≡ b → not valid ≡ false → b ≡ true
@@ -69,7 +70,7 @@ pub ruleset counted = (block-none, block-counted)
 -- ---- 20, then 14, then 15
 module _ (f : Format) (w : List ℕ) (k room : ℕ) {there : Bool} (e : there ≡ hasBlock f w k) where
   pub part-none : not there ≡ true → Refused NoSuchBlock ≡ decodedBy (blockVerdict f w k room) (f .samples)
-  unfolding blockVerdict
+  unfolding blockVerdict decided
   part-none t = let u : hasBlock f w k ≡ false = sym e ∙ not-true there t in simp u
 
   module _ (t : not there ≡ false) where
@@ -77,7 +78,7 @@ module _ (f : Format) (w : List ℕ) (k room : ℕ) {there : Bool} (e : there �
     is-there = sym e ∙ not-false there t
 
     pub part-small : room < f .samples * f .channels → Refused OutputTooSmall ≡ decodedBy (blockVerdict f w k room) (f .samples)
-    unfolding blockVerdict
+    unfolding blockVerdict decided
     part-small h = simp (tests, is-there)
 
     module _ (h : f .samples * f .channels ≤ room) {b : List ℕ} (g : b ≡ blockAt f w k) {valid : Bool} (i : valid ≡ blockValid f b) where
@@ -85,11 +86,11 @@ module _ (f : Format) (w : List ℕ) (k room : ℕ) {there : Bool} (e : there �
       fine-is u = ap (blockValid f) (sym g) ∙ sym i ∙ u
 
       pub part-wrong : not valid ≡ true → Refused BlockHeaderWrong ≡ decodedBy (blockVerdict f w k room) (f .samples)
-      unfolding blockVerdict
+      unfolding blockVerdict decided
       part-wrong u = let v = fine-is (not-true valid u) in simp (tests, is-there, v)
 
       pub part-valid : not valid ≡ false → Frames (record { 0 = f .samples }) ≡ decodedBy (blockVerdict f w k room) (f .samples)
-      unfolding blockVerdict
+      unfolding blockVerdict decided
       part-valid u = let v = fine-is (not-false valid u) in simp (tests, is-there, v)
 
 -- what a block that is there promises

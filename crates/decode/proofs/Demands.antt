@@ -8,11 +8,11 @@ use native.Mathlib.Omega.{arith}
 use lib.Dec.{leb, eqb}
 use lib.ListN.{length, take, drop}
 use Rattle.units.specs.declared.Frames as units
-use Rattle.units.specs.declared.Refusal.the-variants.{OutputTooSmall, BlockHeaderWrong, NoSuchBlock}
 use Rattle.units.specs.declared.Verdict.{Verdict}
 use Rattle.units.specs.declared.Verdict.the-variants as verdict
-use Rattle.units.specs.Refusals.{verdictNumber, demand}
-use Rattle.units.proofs.Laws.{demand-row, demand-met}
+use Rattle.units.specs.Refusals.{verdictNumber}
+use Rattle.units.specs.Checks.{numberBy, numberOr, AllMet}
+use Rattle.units.proofs.Checks.{all-met, number-row}
 use borrow.Author.Tests.{leb-true}
 use Rattle.samples.specs.Sound.{samplesIn, eight}
 use Rattle.formats.specs.declared.Format.{Format}
@@ -26,8 +26,8 @@ use Rattle.sound_data.specs.Sound.{blockValid, blockCount, blockAt, hasBlock, w
 use Rattle.sound_data.proofs.Pcm.{eight-whole, sixteen-whole}
 use Rattle.sound_data.proofs.Whole.{whole-long, block-long, block-of-whole}
 use Rattle.decode.specs.declared.Decoded.the-variants.{Frames, Refused}
-use Rattle.decode.specs.Decoding.{wholeVerdict, blockVerdict, decodedBy, wholeAnswer, blockAnswer, decoding, blockDecoding, contentSound, contentBlock, fileSound, fileBlock, decodedFrames, decodedNumber}
-use Rattle.decode.specs.Demands.{Told, WholeTold, BlockTold, OneOfAll, PcmSound, DecodeNumbered, BlockNumbered, readersOr}
+use Rattle.decode.specs.Decoding.{wholeChecks, wholeVerdict, blockChecks, blockVerdict, decodedBy, wholeAnswer, blockAnswer, decoding, blockDecoding, contentSound, contentBlock, fileSound, fileBlock, decodedFrames, decodedNumber}
+use Rattle.decode.specs.Demands.{Told, WholeTold, BlockTold, OneOfAll, PcmSound, DecodeNumbered, BlockNumbered}
 use Rattle.decode.proofs.Checks.{part-counted, part-adpcm}
 
 -- ---- an answer that is frames
@@ -38,26 +38,20 @@ frames-are (verdict.Refused r) k n e = let z : _≡_ {A = ℕ} 0 1 = cc in absur
 
 -- ---- a verdict that is taken: there is room, and there is such a block
 room-is : (f : Format) (n : ℕ) (w : List ℕ) (room : ℕ) → wholeVerdict f n w room ≡ verdict.Accepted → n * f .channels ≤ room
-unfolding wholeVerdict
-room-is f n w room e =
-    let x : Verdict = demand (dataValid f w) BlockHeaderWrong verdict.Accepted in
-    leb-true (n * f .channels) room (demand-met (leb (n * f .channels) room) OutputTooSmall x e .0)
+unfolding wholeVerdict AllMet
+room-is f n w room e = leb-true (n * f .channels) room (all-met (wholeChecks f n w room) e .0)
 
 module _ (f : Format) (w : List ℕ) (k room : ℕ) (e : blockVerdict f w k room ≡ verdict.Accepted) where
   met : (hasBlock f w k ≡ true) × (leb (f .samples * f .channels) room ≡ true)
-  unfolding blockVerdict
-  met =
-      let x : Verdict = demand (blockValid f (blockAt f w k)) BlockHeaderWrong verdict.Accepted in
-      let y : Verdict = demand (leb (f .samples * f .channels) room) OutputTooSmall x in
-      let p = demand-met (hasBlock f w k) NoSuchBlock y e in
-      (p .0, demand-met (leb (f .samples * f .channels) room) OutputTooSmall x (p .1) .0)
+  unfolding blockVerdict AllMet
+  met = let p = all-met (blockChecks f w k room) e in (p .0, p .1 .0)
 
   there-is : k < blockCount f w
   there-is = part-counted f w k {there = true} (sym (met .0)) refl
 
 -- ---- what is told is put out
-pub whole-told : (s : List ℕ) → WholeTold s
-unfolding decoding fileSound reading
+pub whole-told : WholeTold
+unfolding WholeTold decoding fileSound reading
 whole-told s room n = by (contentOf s) refl
   where
     by : (c : Content) → c ≡ contentOf s → wholeAnswer c room ≡ Frames n
@@ -69,8 +63,8 @@ whole-told s room n = by (contentOf s) refl
         let l = whole-long (content-kept s e) in
         record { frames = p .1; long = l; room = omega (arith, l, room-is (m .format) (m .frames .0) w room (p .0)) }
 
-pub block-told : (s : List ℕ) → BlockTold s
-unfolding blockDecoding fileBlock reading
+pub block-told : BlockTold
+unfolding BlockTold blockDecoding fileBlock reading
 block-told s k room n = by (contentOf s) refl
   where
     by : (c : Content) → c ≡ contentOf s → blockAnswer c k room ≡ Frames n
@@ -101,8 +95,8 @@ unfolding blockCount
 begun-is f n w k q a g = frames-begun f (record { 0 = length w }) n (q .count) k (wanted-tag f a) g
 
 -- ---- a block is its part of the whole
-pub one-of-all : (s : List ℕ) → OneOfAll s
-unfolding fileSound fileBlock reading soundIn
+pub one-of-all : OneOfAll
+unfolding OneOfAll fileSound fileBlock reading soundIn
 one-of-all s k h = let p = by (contentOf s) refl h in record { begun = p .0; same = p .1 }
   where
     by : (c : Content) → c ≡ contentOf s → hasBlock (readingOf c .made .format) (soundOf c) k ≡ true
@@ -118,8 +112,8 @@ one-of-all s k h = let p = by (contentOf s) refl h in record { begun = p .0; sam
         (begun-is (m .format) (m .frames) w k q a g, block-of-whole q k g)
 
 -- ---- PCM in one go
-pub pcm-sound : (s : List ℕ) → PcmSound s
-unfolding fileSound reading soundIn
+pub pcm-sound : PcmSound
+unfolding PcmSound fileSound reading soundIn
 pcm-sound s h = by (contentOf s) refl h
   where
     by : (c : Content) → c ≡ contentOf s → needsFact (readingOf c .made .format) ≡ false
@@ -132,32 +126,32 @@ pcm-sound s h = by (contentOf s) refl h
         (λ t. eight-whole f (m .frames) w q h t)
         (λ t. sixteen-whole f (m .frames) w q h t)
 
--- ---- the numbers: each demand is a row
+-- ---- the numbers: each check is a row
 answer-number : (v : Verdict) (n : ℕ) → decodedNumber (decodedBy v n) ≡ verdictNumber v
 answer-number verdict.Accepted n = refl
 answer-number (verdict.Refused r) n = refl
 
-pub numbered : (s : List ℕ) → DecodeNumbered s
-unfolding decoding reading soundIn wholeVerdict
+pub numbered : DecodeNumbered
+unfolding DecodeNumbered decoding reading soundIn wholeVerdict numberBy
 numbered s room = by (contentOf s)
   where
     by : (c : Content)
         → decodedNumber (wholeAnswer c room)
-        ≡ readersOr (readingOf c .verdict)
+        ≡ numberOr (readingOf c .verdict)
         (cond (not (leb (readingOf c .made .frames .0 * readingOf c .made .format .channels) room)) 14
         (cond (not (dataValid (readingOf c .made .format) (soundOf c))) 15 0))
     by (refused r) = refl
-    by (holds m w) = answer-number (wholeVerdict (m .format) (m .frames .0) w room) (m .frames .0) ∙ simp demand-row
+    by (holds m w) = answer-number (wholeVerdict (m .format) (m .frames .0) w room) (m .frames .0) ∙ number-row (wholeChecks (m .format) (m .frames .0) w room)
 
-pub block-numbered : (s : List ℕ) → BlockNumbered s
-unfolding blockDecoding reading soundIn blockVerdict
+pub block-numbered : BlockNumbered
+unfolding BlockNumbered blockDecoding reading soundIn blockVerdict numberBy
 block-numbered s k room = by (contentOf s)
   where
     by : (c : Content)
         → decodedNumber (blockAnswer c k room)
-        ≡ readersOr (readingOf c .verdict)
+        ≡ numberOr (readingOf c .verdict)
         (cond (not (hasBlock (readingOf c .made .format) (soundOf c) k)) 20
         (cond (not (leb (readingOf c .made .format .samples * readingOf c .made .format .channels) room)) 14
         (cond (not (blockValid (readingOf c .made .format) (blockAt (readingOf c .made .format) (soundOf c) k))) 15 0)))
     by (refused r) = refl
-    by (holds m w) = answer-number (blockVerdict (m .format) w k room) (m .format .samples) ∙ simp demand-row
+    by (holds m w) = answer-number (blockVerdict (m .format) w k room) (m .format .samples) ∙ number-row (blockChecks (m .format) w k room)

@@ -4,6 +4,7 @@ use mathlib.Core.Bool.{true}
 use mathlib.Core.List.{List, []}
 use Prim.Native.Nat.{ℕ}
 use lib.IntN.{ℤ}
+use Rattle.little.specs.Writing.{holding}
 use Rattle.units.specs.declared.Refusal.{Refusal}
 use Rattle.units.specs.declared.Verdict.the-variants as verdict
 use Rattle.formats.specs.Format.{formatRule}
@@ -17,7 +18,7 @@ use Rattle.reader.proofs.Kept.{content-refused, content-taken, content-kept}
 use Rattle.sound_data.specs.Sound.{blockSound, wholeSound}
 use Rattle.decode.specs.declared.Decoded.{Decoded}
 use Rattle.decode.specs.declared.Decoded.the-variants.{Refused}
-use Rattle.decode.specs.Decoding.{wholeVerdict, blockVerdict, decodedBy, wholeAnswer, blockAnswer, decoding, blockDecoding, contentSound, contentBlock, fileSound, fileBlock, holding}
+use Rattle.decode.specs.Decoding.{wholeVerdict, blockVerdict, decodedBy, wholeAnswer, blockAnswer, decoding, blockDecoding, contentSound, contentBlock, fileSound, fileBlock, decodedVerdict}
 
 module _ (s : List ℕ) {x : Reading} (e : x ≡ reading s) where
   module _ {r : Refusal} (h : x .verdict ≡ verdict.Refused r) where
@@ -42,9 +43,9 @@ module _ (s : List ℕ) {x : Reading} (e : x ≡ reading s) where
     file-taken room i = i ∙ ap (λ (c : Content). wholeAnswer c room) content
 
     pub file-held : (a : Decoded) (d : List ℤ) {out : List ℤ}
-        → out ≡ holding a (wholeSound (x .made .format) (x .made .frames .0) w) d → out ≡ holding a (fileSound s) d
+        → out ≡ holding (decodedVerdict a) (wholeSound (x .made .format) (x .made .frames .0) w) d → out ≡ holding (decodedVerdict a) (fileSound s) d
     unfolding fileSound
-    file-held a d i = i ∙ ap (λ (c : Content). holding a (contentSound c) d) content
+    file-held a d i = i ∙ ap (λ (c : Content). holding (decodedVerdict a) (contentSound c) d) content
 
     pub block-taken : (k room : ℕ) {a : Decoded}
         → a ≡ decodedBy (blockVerdict (x .made .format) w k room) (x .made .format .samples) → a ≡ blockDecoding s k room
@@ -52,9 +53,9 @@ module _ (s : List ℕ) {x : Reading} (e : x ≡ reading s) where
     block-taken k room i = i ∙ ap (λ (c : Content). blockAnswer c k room) content
 
     pub block-held : (k : ℕ) (a : Decoded) (d : List ℤ) {out : List ℤ}
-        → out ≡ holding a (blockSound (x .made .format) w k) d → out ≡ holding a (fileBlock s k) d
+        → out ≡ holding (decodedVerdict a) (blockSound (x .made .format) w k) d → out ≡ holding (decodedVerdict a) (fileBlock s k) d
     unfolding fileBlock
-    block-held k a d i = i ∙ ap (λ (c : Content). holding a (contentBlock c k) d) content
+    block-held k a d i = i ∙ ap (λ (c : Content). holding (decodedVerdict a) (contentBlock c k) d) content
 
     pub block-rule : formatRule (x .made .format) ≡ true
     block-rule = file-sounding .rule

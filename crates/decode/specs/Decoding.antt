@@ -1,13 +1,12 @@
--- Decoding a file, or one block of it: the answer, the sound, and what the lent buffer then holds. Assumes nothing.
+-- Decoding a file, or one block of it: the checks, the answer and the sound. Assumes nothing.
 use Prim.Native.Nat.{ℕ, _*_}
-use mathlib.Core.List.{List, []}
+use mathlib.Core.List.{List, [], _∷_}
 use lib.Dec.{leb}
 use lib.IntN.{ℤ}
-use Rattle.little.specs.Writing.{front}
 use Rattle.units.specs.declared.Refusal.the-variants.{OutputTooSmall, BlockHeaderWrong, NoSuchBlock}
 use Rattle.units.specs.declared.Verdict.{Verdict}
-use Rattle.units.specs.declared.Verdict.the-variants.{Accepted}
-use Rattle.units.specs.Refusals.{numberOf, demand}
+use Rattle.units.specs.Refusals.{verdictNumber}
+use Rattle.units.specs.Checks.{Check, check, decided}
 use Rattle.formats.specs.declared.Format.{Format}
 use Rattle.reader.specs.Content.{Content, refused, holds, contentOf}
 use Rattle.sound_data.specs.Sound.{blockValid, blockAt, hasBlock, blockSound, wholeSound, dataValid}
@@ -17,19 +16,25 @@ use Rattle.decode.specs.declared.Decoded.the-variants.{Frames, Refused}
 -- ---- the checks, on sound data w of a format
 
 -- 14, room below F x channels; then 15 for any block
+abbrev pub wholeChecks : Format → ℕ → List ℕ → ℕ → List Check
+wholeChecks f frames w room =
+    check (leb (frames * f .channels) room) OutputTooSmall
+    ∷ check (dataValid f w) BlockHeaderWrong
+    ∷ []
+
 unfoldable pub wholeVerdict : Format → ℕ → List ℕ → ℕ → Verdict
-wholeVerdict f frames w room =
-    demand (leb (frames * f .channels) room) OutputTooSmall
-    (demand (dataValid f w) BlockHeaderWrong
-    Accepted)
+wholeVerdict f frames w room = decided (wholeChecks f frames w room)
 
 -- 20, also for PCM; 14, room below S x channels; 15
+abbrev pub blockChecks : Format → List ℕ → ℕ → ℕ → List Check
+blockChecks f w k room =
+    check (hasBlock f w k) NoSuchBlock
+    ∷ check (leb (f .samples * f .channels) room) OutputTooSmall
+    ∷ check (blockValid f (blockAt f w k)) BlockHeaderWrong
+    ∷ []
+
 unfoldable pub blockVerdict : Format → List ℕ → ℕ → ℕ → Verdict
-blockVerdict f w k room =
-    demand (hasBlock f w k) NoSuchBlock
-    (demand (leb (f .samples * f .channels) room) OutputTooSmall
-    (demand (blockValid f (blockAt f w k)) BlockHeaderWrong
-    Accepted))
+blockVerdict f w k room = decided (blockChecks f w k room)
 
 -- ---- the answers
 
@@ -72,19 +77,17 @@ fileSound s = contentSound (contentOf s)
 unfoldable pub fileBlock : List ℕ → ℕ → List ℤ
 fileBlock s k = contentBlock (contentOf s) k
 
--- ---- the lent buffer
+-- ---- what an answer tells
 
--- a buffer d after it: the sound from its start and then what it held, or all as it was
-abbrev pub holding : Decoded → List ℤ → List ℤ → List ℤ
-holding (Frames n) sound d = front sound d
-holding (Refused r) sound d = d
-
--- how many frames an answer tells; a refusal tells none
+-- how many frames; a refusal tells none
 abbrev pub decodedFrames : Decoded → ℕ
 decodedFrames (Frames n) = n .0
 decodedFrames (Refused r) = 0
 
--- the number of an answer: 0 where the sound is put out
+-- the verdict, and its number: 0 where the sound is put out
+abbrev pub decodedVerdict : Decoded → Verdict
+decodedVerdict (Frames n) = Verdict.Accepted
+decodedVerdict (Refused r) = Verdict.Refused r
+
 abbrev pub decodedNumber : Decoded → ℕ
-decodedNumber (Frames n) = 0
-decodedNumber (Refused r) = numberOf r
+decodedNumber x = verdictNumber (decodedVerdict x)

@@ -1,4 +1,4 @@
--- What decoding promises besides its definition, for every file. `proofs/Demands.antt` proves each. Assumes nothing.
+-- What decoding promises besides its definition, each for every file. `proofs/Demands.antt` proves each. Assumes nothing.
 use Prim.Native.Nat.{ℕ, _-_, _*_, _≤_, _<_}
 use mathlib.Core.Path.{_≡_}
 use mathlib.Core.Bool.{true, false, not, cond}
@@ -7,9 +7,7 @@ use lib.Dec.{leb, eqb}
 use lib.IntN.{ℤ}
 use lib.ListN.{length, take, drop}
 use Rattle.units.specs.declared.Frames as units
-use Rattle.units.specs.declared.Verdict.{Verdict}
-use Rattle.units.specs.declared.Verdict.the-variants.{Accepted, Refused}
-use Rattle.units.specs.Refusals.{numberOf}
+use Rattle.units.specs.Checks.{numberOr}
 use Rattle.formats.specs.declared.Format.{Format}
 use Rattle.formats.specs.Frames.{needsFact}
 use Rattle.samples.specs.Sound.{samplesIn, eight}
@@ -31,14 +29,14 @@ pub record Told (answer : Decoded) (sound : List ℤ) (n c most : ℕ) : Type 0 
   pub long : length sound ≡ n * c
   pub room : length sound ≤ most
 
-abbrev pub WholeTold : List ℕ → Type 0
-WholeTold s =
-    (room : ℕ) (n : units.Frames) → decoding s room ≡ Frames n
+unfoldable pub WholeTold : Type 0
+WholeTold =
+    (s : List ℕ) (room : ℕ) (n : units.Frames) → decoding s room ≡ Frames n
     → Told (decoding s room) (fileSound s) (fileFrames s) (channelsOf s) room
 
-abbrev pub BlockTold : List ℕ → Type 0
-BlockTold s =
-    (k room : ℕ) (n : units.Frames) → blockDecoding s k room ≡ Frames n
+unfoldable pub BlockTold : Type 0
+BlockTold =
+    (s : List ℕ) (k room : ℕ) (n : units.Frames) → blockDecoding s k room ≡ Frames n
     → Told (blockDecoding s k room) (fileBlock s k) (blockFramesOf s) (channelsOf s) room
 
 -- ---- block k of S frames is frames k x S up to (k + 1) x S of the whole of F, where the file has them: its first frame at least
@@ -48,37 +46,32 @@ pub record BlockOfWhole (s : List ℕ) (k : ℕ) : Type 0 where
       take (blockFramesOf s * channelsOf s) (drop (k * (blockFramesOf s * channelsOf s)) (fileSound s))
       ≡ take ((fileFrames s - k * blockFramesOf s) * channelsOf s) (fileBlock s k)
 
-abbrev pub OneOfAll : List ℕ → Type 0
-OneOfAll s = (k : ℕ) → hasBlock (fileFormat s) (soundIn s) k ≡ true → BlockOfWhole s k
+unfoldable pub OneOfAll : Type 0
+OneOfAll = (s : List ℕ) (k : ℕ) → hasBlock (fileFormat s) (soundIn s) k ≡ true → BlockOfWhole s k
 
 -- ---- the sound of PCM is the samples of all its bytes: of each byte, or of each two
-abbrev pub PcmSound : List ℕ → Type 0
-PcmSound s =
-    needsFact (fileFormat s) ≡ false
+unfoldable pub PcmSound : Type 0
+PcmSound =
+    (s : List ℕ) → needsFact (fileFormat s) ≡ false
     → fileSound s ≡ cond (eqb (fileFormat s .bits) 8) (map eight (soundIn s)) (samplesIn (soundIn s))
 
 -- ---- the number that decoding gives, in the order of checks and the numbers of document 01; 0 is decoded
 
--- the reader's refusal, or else another number
-abbrev pub readersOr : Verdict → ℕ → ℕ
-readersOr (Refused r) n = numberOf r
-readersOr Accepted n = n
-
 -- the reader's, 14, then 15 for any block
-abbrev pub DecodeNumbered : List ℕ → Type 0
-DecodeNumbered s =
-    (room : ℕ)
+unfoldable pub DecodeNumbered : Type 0
+DecodeNumbered =
+    (s : List ℕ) (room : ℕ)
     → decodedNumber (decoding s room)
-    ≡ readersOr (reading s .verdict)
+    ≡ numberOr (reading s .verdict)
     (cond (not (leb (fileFrames s * channelsOf s) room)) 14
     (cond (not (dataValid (fileFormat s) (soundIn s))) 15 0))
 
 -- the reader's, 20, 14, 15
-abbrev pub BlockNumbered : List ℕ → Type 0
-BlockNumbered s =
-    (k room : ℕ)
+unfoldable pub BlockNumbered : Type 0
+BlockNumbered =
+    (s : List ℕ) (k room : ℕ)
     → decodedNumber (blockDecoding s k room)
-    ≡ readersOr (reading s .verdict)
+    ≡ numberOr (reading s .verdict)
     (cond (not (hasBlock (fileFormat s) (soundIn s) k)) 20
     (cond (not (leb (blockFramesOf s * channelsOf s) room)) 14
     (cond (not (blockValid (fileFormat s) (blockAt (fileFormat s) (soundIn s) k))) 15 0)))

@@ -9,10 +9,11 @@ ghost use mathlib.Core.Path.{_≡_};
 ghost use mathlib.Core.Bool.{true};
 ghost use Prim.Native.Nat.{_<_};
 ghost use lib.ListN.{length};
+ghost use Rattle.little.specs.Writing.{holding};
 ghost use Rattle.formats.specs.Format.{formatRule};
 ghost use Rattle.formats.specs.Frames.{Sounding};
 ghost use Rattle.sound_data.specs.Sound.{hasBlock, blockSound, wholeSound};
-ghost use Rattle.decode.specs.Decoding.{wholeVerdict, blockVerdict, decodedBy, decoding, blockDecoding, fileSound, fileBlock, holding};
+ghost use Rattle.decode.specs.Decoding.{wholeVerdict, blockVerdict, decodedBy, decodedVerdict, decoding, blockDecoding, fileSound, fileBlock};
 
 // The answer of decoding: how many frames were put out, or the refusal.
 pub enum Decoded {
@@ -24,7 +25,7 @@ pub enum Decoded {
 fn decode_data(format: Format, frames: Frames, bytes: &[u8], out: &mut [i16]) -> Decoded
     requires { ⌜ Sounding format frames (now bytes) ⌝ }
     ensures answer { λ r. ⌜ r ≡ decodedBy (wholeVerdict format (frames .0) (now (bytes .entry)) (length (now (out .entry)))) (frames .0) ⌝ }
-    ensures buffer { λ r. ⌜ now (out .exit) ≡ holding r (wholeSound format (frames .0) (now (bytes .entry))) (now (out .entry)) ⌝ }
+    ensures buffer { λ r. ⌜ now (out .exit) ≡ holding (decodedVerdict r) (wholeSound format (frames .0) (now (bytes .entry))) (now (out .entry)) ⌝ }
 {
     if out.len() < frames.0 as usize * format.channels as usize {
         return Decoded::Refused(Refusal::OutputTooSmall);
@@ -53,7 +54,7 @@ fn has_block(format: Format, bytes: &[u8], block: usize) -> bool
 fn decode_part(format: Format, bytes: &[u8], block: usize, out: &mut [i16]) -> Decoded
     requires { ⌜ formatRule format ≡ true ⌝ }
     ensures answer { λ r. ⌜ r ≡ decodedBy (blockVerdict format (now (bytes .entry)) block (length (now (out .entry)))) (format .samples) ⌝ }
-    ensures buffer { λ r. ⌜ now (out .exit) ≡ holding r (blockSound format (now (bytes .entry)) block) (now (out .entry)) ⌝ }
+    ensures buffer { λ r. ⌜ now (out .exit) ≡ holding (decodedVerdict r) (blockSound format (now (bytes .entry)) block) (now (out .entry)) ⌝ }
 {
     let there = has_block(format, bytes, block);
     if !there {
@@ -74,7 +75,7 @@ fn decode_part(format: Format, bytes: &[u8], block: usize, out: &mut [i16]) -> D
 // Decodes a whole file into a lent buffer.
 pub fn decode(file: &[u8], out: &mut [i16]) -> Decoded
     ensures answer { λ r. ⌜ r ≡ decoding (now (file .entry)) (length (now (out .entry))) ⌝ }
-    ensures buffer { λ r. ⌜ now (out .exit) ≡ holding r (fileSound (now (file .entry))) (now (out .entry)) ⌝ }
+    ensures buffer { λ r. ⌜ now (out .exit) ≡ holding (decodedVerdict r) (fileSound (now (file .entry))) (now (out .entry)) ⌝ }
 {
     let opened = reader::open(file);
     let reading = opened.answer;
@@ -93,7 +94,7 @@ pub fn decode(file: &[u8], out: &mut [i16]) -> Decoded
 // Decodes a block of an ADPCM file, counted from 0, into a lent buffer: all its frames, so with its fill.
 pub fn decode_block(file: &[u8], block: u32, out: &mut [i16]) -> Decoded
     ensures answer { λ r. ⌜ r ≡ blockDecoding (now (file .entry)) block (length (now (out .entry))) ⌝ }
-    ensures buffer { λ r. ⌜ now (out .exit) ≡ holding r (fileBlock (now (file .entry)) block) (now (out .entry)) ⌝ }
+    ensures buffer { λ r. ⌜ now (out .exit) ≡ holding (decodedVerdict r) (fileBlock (now (file .entry)) block) (now (out .entry)) ⌝ }
 {
     let opened = reader::open(file);
     let reading = opened.answer;

@@ -3,21 +3,20 @@ use mathlib.Core.Path.{_≡_, refl, sym, ap, _∙_, subst}
 use mathlib.Core.List.{List}
 use Prim.Native.Nat.{ℕ, _*_, _%_, _≤_}
 use native.Mathlib.Omega.{arith}
-use lib.Dec.{T, leb, eqb, leb→le, eqb→eq}
 use lib.IntN.{ℤ}
 use lib.ListN.{length}
 use mir.Syntax.{w64}
 use mir.Val.{Fits}
+use borrow.Author.Tests.{leb-true, eqb-true}
 use Rattle.little.specs.Writing.{front}
 use Rattle.lists.proofs.Turns.{joined-long}
 use Rattle.units.specs.declared.Refusal.{Refusal}
-use Rattle.units.specs.declared.Refusal.the-variants.{LengthOutOfRange, FormatWrong, NotWholeFrames, OutputTooSmall}
 use Rattle.units.specs.declared.Verdict.{Verdict}
 use Rattle.units.specs.declared.Verdict.the-variants.{Accepted, Refused}
-use Rattle.units.specs.Refusals.{demand}
-use Rattle.units.proofs.Laws.{demand-met}
+use Rattle.units.specs.Checks.{AllMet}
+use Rattle.units.proofs.Checks.{all-met}
 use Rattle.encode.specs.declared.Coded.{Coded}
-use Rattle.encode.specs.Encoding.{codable, blocksFor, blockBytes, encodedBytes, chasedCount, encodeVerdict}
+use Rattle.encode.specs.Encoding.{blocksFor, blockBytes, encodedBytes, chasedCount, encodeChecks, encodeVerdict}
 use Rattle.encode.specs.Answer.{codedOf, encodedBy, encoding}
 use Rattle.encode.proofs.Settling.{Codable, codable-says, product-fits}
 use Rattle.encode.proofs.Loops.{length-mono, length-stereo}
@@ -30,20 +29,14 @@ pub record Settled (n c a room : ℕ) : Type 0 where
   pub fits : blocksFor c a n * a ≤ room
 
 pub settled-says : (n c a room : ℕ) → encodeVerdict n c a room ≡ Accepted → Settled n c a room
-unfolding encodeVerdict
+unfolding encodeVerdict AllMet
 settled-says n c a room e =
-    let x : Verdict = demand (leb (blocksFor c a n * a) room) OutputTooSmall Accepted in
-    let y : Verdict = demand (eqb (n % c) 0) NotWholeFrames x in
-    let z : Verdict = demand (codable c a) FormatWrong y in
-    let p = demand-met (leb n 536870912) LengthOutOfRange z e in
-    let q = demand-met (codable c a) FormatWrong y (p .1) in
-    let r = demand-met (eqb (n % c) 0) NotWholeFrames x (q .1) in
-    let s = demand-met (leb (blocksFor c a n * a) room) OutputTooSmall Accepted (r .1) in
+    let met = all-met (encodeChecks n c a room) e in
     record {
-      small = leb→le n 536870912 (subst T (sym (p .0)) tt);
-      valid = codable-says c a (q .0);
-      whole = eqb→eq (n % c) 0 (subst T (sym (r .0)) tt);
-      fits = leb→le (blocksFor c a n * a) room (subst T (sym (s .0)) tt);
+      small = leb-true n 536870912 (met .0);
+      valid = codable-says c a (met .1 .0);
+      whole = eqb-true (n % c) 0 (met .1 .1 .0);
+      fits = leb-true (blocksFor c a n * a) room (met .1 .1 .1 .0);
     }
 
 module _ (n c a room : ℕ) (e : encodeVerdict n c a room ≡ Accepted) where

@@ -23,11 +23,12 @@ use Rattle.ima_coder.specs.Part.{chasedPart, countOf}
 use Rattle.units.specs.declared.Verdict.{Verdict}
 use Rattle.units.specs.declared.Verdict.the-variants.{Accepted}
 use Rattle.units.specs.Refusals.{verdictNumber}
-use Rattle.units.proofs.Laws.{demand-row}
+use Rattle.units.specs.Checks.{numberBy}
+use Rattle.units.proofs.Checks.{number-row}
 use Rattle.encode.specs.declared.Coded.{Coded}
 use Rattle.encode.specs.declared.Encoded.{Encoded}
 use Rattle.encode.specs.declared.Encoded.the-variants.{Blocks, Refused}
-use Rattle.encode.specs.Encoding.{blockOf, openIndex, channelBytes, chasedBlock, blocksFor, encodedBytes, chasedIn, chasedCount, encodeVerdict}
+use Rattle.encode.specs.Encoding.{blockOf, openIndex, channelBytes, chasedBlock, blocksFor, encodedBytes, chasedIn, chasedCount, encodeChecks, encodeVerdict}
 use Rattle.encode.specs.Answer.{codedOf, encodedBy, encoding, encodedNumber}
 use Rattle.encode.specs.Demands.{frameOf, blockOfBytes, heardAt, chasedAt, chasedFrames, Quality, trackedPart, trackedAt, Tracked, EncodeNumbered}
 use Rattle.encode.proofs.Settling.{Codable}
@@ -36,7 +37,7 @@ use Rattle.encode.proofs.Blocks.{per-some, length-block, length-part}
 use Rattle.encode.proofs.Heard.{index-back, part-heard, per-is, part-back, block-back}
 use Rattle.encode.proofs.Frames.{block-sixteen, block-frame, open-below, calm-take, blocks-calm, same-block, one-before, blocks-enough, block-among}
 
-abbrev silent : ImaState
+abbrev pub silent : ImaState
 silent = record { last = pos 0; index = 0 }
 
 -- ---- one block of a channel: the opening sample, the later ones, and which are chased
@@ -290,11 +291,11 @@ tracked-back s c a room w z e ch f l h =
     settled-says (length s) c a room (accepted (encodeVerdict (length s) c a room) e .0) in
     heard-tracked c a s ch (t .valid) z (t .whole) l f h
 
--- ---- the number of an answer: each demand is a row
+-- ---- the number of an answer: each check is a row
 answer-number : (v : Verdict) (u : Coded) → encodedNumber (encodedBy v u) ≡ verdictNumber v
 answer-number Accepted u = refl
 answer-number (Verdict.Refused r) u = refl
 
 pub numbered : EncodeNumbered
-unfolding EncodeNumbered encoding encodeVerdict
-numbered s c a room = answer-number (encodeVerdict (length s) c a room) (codedOf c a s) ∙ simp demand-row
+unfolding EncodeNumbered encoding encodeVerdict numberBy
+numbered s c a room = answer-number (encodeVerdict (length s) c a room) (codedOf c a s) ∙ number-row (encodeChecks (length s) c a room)

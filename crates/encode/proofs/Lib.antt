@@ -6,3 +6,4 @@ pub mod Frames
 pub mod Heard
 pub mod Loops
 pub mod Settling
+pub mod Carried

@@ -12,6 +12,7 @@ use borrow.Author.Tests.{not-true, not-false}
 use Rattle.little.proofs.Tests.{tests}
 use Rattle.units.specs.declared.Refusal.the-variants.{LengthOutOfRange, FormatWrong, NotWholeFrames, OutputTooSmall}
 use Rattle.units.specs.declared.Verdict.the-variants.{Accepted, Refused}
+use Rattle.units.specs.Checks.{decided}
 use Rattle.ima_block.specs.Block.{imaSamples}
 use Rattle.encode.specs.Encoding.{codable, blocksFor, encodeVerdict}
 
@@ -112,26 +113,26 @@ module _ (c a : ℕ) {r : Bool} (e : r ≡ codable c a) (f : r ≡ true) where
 -- ---- the order of the checks
 module _ (n c a room : ℕ) where
   pub verdict-long : 536870912 < n → Refused LengthOutOfRange ≡ encodeVerdict n c a room
-  unfolding encodeVerdict
+  unfolding encodeVerdict decided
   verdict-long h = simp tests
 
   module _ {r : Bool} (h : n ≤ 536870912) (e : r ≡ codable c a) where
     pub verdict-format : r ≡ false → Refused FormatWrong ≡ encodeVerdict n c a room
-    unfolding encodeVerdict
+    unfolding encodeVerdict decided
     verdict-format f = simp (tests, ← e, f)
 
     module _ (f : r ≡ true) where
       pub verdict-part : (n % c ≡ 0 → ⊥) → Refused NotWholeFrames ≡ encodeVerdict n c a room
-      unfolding encodeVerdict
+      unfolding encodeVerdict decided
       verdict-part k = simp (tests, ← e, f)
 
       module _ {b : ℕ} (k : n % c ≡ 0) (g : b ≡ blocksFor c a n) where
         pub verdict-room : room < b * a → Refused OutputTooSmall ≡ encodeVerdict n c a room
-        unfolding encodeVerdict
+        unfolding encodeVerdict decided
         verdict-room l = simp (tests, ← e, f, ← g)
 
         pub verdict-valid : b * a ≤ room → Accepted ≡ encodeVerdict n c a room
-        unfolding encodeVerdict
+        unfolding encodeVerdict decided
         verdict-valid l = simp (tests, ← e, f, ← g)
 
 pub ruleset settling = (verdict-long, verdict-format, fine-some, fine-room, fine-most, fine-fits, verdict-part, verdict-room, verdict-valid, not-true, not-false)

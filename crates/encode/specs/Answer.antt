@@ -1,11 +1,10 @@
--- The answer of encoding, and what the lent buffer then holds. Assumes nothing.
+-- The answer of encoding, and its verdict. Assumes nothing.
 use Prim.Native.Nat.{ℕ}
 use mathlib.Core.List.{List}
 use lib.IntN.{ℤ}
 use lib.ListN.{length}
-use Rattle.little.specs.Writing.{front}
 use Rattle.units.specs.declared.Verdict.{Verdict}
-use Rattle.units.specs.Refusals.{numberOf}
+use Rattle.units.specs.Refusals.{verdictNumber}
 use Rattle.encode.specs.declared.Coded.{Coded}
 use Rattle.encode.specs.declared.Encoded.{Encoded}
 use Rattle.encode.specs.declared.Encoded.the-variants.{Blocks, Refused}
@@ -29,12 +28,10 @@ encodedBy (Verdict.Refused r) w = Refused r
 unfoldable pub encoding : List ℤ → ℕ → ℕ → ℕ → Encoded
 encoding s c a room = encodedBy (encodeVerdict (length s) c a room) (codedOf c a s)
 
--- a buffer d after it: the blocks from its start and then what it held, or all as it was
-abbrev pub holding : {A : Type 0} → Encoded → List A → List A → List A
-holding (Blocks w) ys d = front ys d
-holding (Refused r) ys d = d
+-- the verdict that an answer tells, and its number: 0 where the blocks are written
+abbrev pub encodedVerdict : Encoded → Verdict
+encodedVerdict (Blocks w) = Verdict.Accepted
+encodedVerdict (Refused r) = Verdict.Refused r
 
--- the number of an answer: 0 where the blocks are written
 abbrev pub encodedNumber : Encoded → ℕ
-encodedNumber (Blocks w) = 0
-encodedNumber (Refused r) = numberOf r
+encodedNumber x = verdictNumber (encodedVerdict x)

@@ -2,7 +2,7 @@
 use Prim.Native.Nat.{ℕ, _+_, _-_, _*_, _/_, _%_, _<_}
 use mathlib.Core.Path.{_≡_}
 use mathlib.Core.Bool.{Bool, true, false, not, cond, _&&_}
-use mathlib.Core.List.{List, [], _∷_}
+use mathlib.Core.List.{List, [], _∷_, _++_}
 use lib.Dec.{leb, ltb, eqb}
 use lib.IntN.{ℤ, pos, negsuc, natAbs, _-ℤ_}
 use lib.ListN.{length, take, drop, getD, replicate}
@@ -88,6 +88,13 @@ Tracked =
     (s : List ℤ) (c a room : ℕ) (w : Coded) → Sixteen s → encoding s c a room ≡ Blocks w
     → (ch f : ℕ) → ch < c → f < length s / c → heardAt c a (encodedBytes c a s) ch f ≡ trackedAt c a s ch f
 
+-- ---- the first block has index 0 in each channel; where a later one opens, the index is that after the frame before
+unfoldable pub Carried : Type 0
+Carried =
+    (s : List ℤ) (c a room : ℕ) (w : Coded) → Sixteen s → encoding s c a room ≡ Blocks w
+    → (ch f : ℕ) → ch < c → f < length s / c → f % imaSamples c a ≡ 0
+    → heardAt c a (encodedBytes c a s) ch f .index ≡ cond (ltb 0 f) (heardAt c a (encodedBytes c a s) ch (f - 1) .index) 0
+
 -- ---- the bounds are reached: 11 in succession, and an error of s/8 + 2
 
 -- two sounds, mono in blocks of 12 bytes
@@ -99,6 +106,15 @@ Reached =
     (atMost 10 (chasedFrames 1 12 rise (encodedBytes 1 12 rise) 0) ≡ false)
     × (chasedAt 1 12 step (encodedBytes 1 12 step) 0 1 ≡ false)
     × (natAbs (heardAt 1 12 (encodedBytes 1 12 step) 0 1 .last -ℤ pos 13) ≡ stepAt (t .index) / 8 + 2)
+
+-- ---- why an opening sample ends a run: were it passed over, 12 would follow each other here, 11 of the first block of 17 frames
+-- and one of the second
+unfoldable pub PassedOver : Type 0
+PassedOver =
+    let swing : List ℤ = replicate 6 (negsuc 32767) ++ (replicate 11 (pos 32767) ++ (negsuc 32767 ∷ pos 32767 ∷ [])) in
+    let chased : ℕ → Bool = chasedAt 1 12 swing (encodedBytes 1 12 swing) 0 in
+    let later : List Bool = values (λ i. chased (i + i / 16 + 1)) 0 17 in
+    (atMost 11 (values chased 0 19) ≡ true) × (atMost 11 later ≡ false) × (atMost 12 later ≡ true)
 
 -- ---- the order of checks, in document 01's own numbers: 1, 9, 10, 14; 0 where the blocks are written
 unfoldable pub EncodeNumbered : Type 0

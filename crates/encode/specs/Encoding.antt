@@ -1,15 +1,14 @@
 -- Encoding a whole sound: its blocks, its chased samples, and the answer. Assumes nothing.
 use Prim.Native.Nat.{ℕ, zero, suc, _+_, _-_, _*_, _/_, _%_}
 use mathlib.Core.Bool.{Bool, cond, _&&_}
-use mathlib.Core.List.{List}
+use mathlib.Core.List.{List, [], _∷_}
 use lib.Dec.{leb, ltb, eqb}
 use lib.IntN.{ℤ}
 use lib.ListN.{length, take}
 use Rattle.lists.specs.Turns.{values, joined, inTurn}
 use Rattle.units.specs.declared.Refusal.the-variants.{LengthOutOfRange, FormatWrong, NotWholeFrames, OutputTooSmall}
 use Rattle.units.specs.declared.Verdict.{Verdict}
-use Rattle.units.specs.declared.Verdict.the-variants.{Accepted}
-use Rattle.units.specs.Refusals.{demand}
+use Rattle.units.specs.Checks.{Check, check, decided}
 use Rattle.ima_block.specs.Block.{imaSamples}
 use Rattle.ima_coder.specs.Part.{samplesFrom, codedPart, closingIndex, chasedPart, countOf}
 
@@ -58,10 +57,13 @@ unfoldable pub codable : ℕ → ℕ → Bool
 codable c a = leb 1 c && leb c 2 && eqb (a % (4 * c)) 0 && leb (8 * c) a && leb a 4096
 
 -- 1 for more than 536,870,912 samples, 9 for channels or align, 10 for part of a frame, 14
+abbrev pub encodeChecks : ℕ → ℕ → ℕ → ℕ → List Check
+encodeChecks n c a room =
+    check (leb n 536870912) LengthOutOfRange
+    ∷ check (codable c a) FormatWrong
+    ∷ check (eqb (n % c) 0) NotWholeFrames
+    ∷ check (leb (blocksFor c a n * a) room) OutputTooSmall
+    ∷ []
+
 unfoldable pub encodeVerdict : ℕ → ℕ → ℕ → ℕ → Verdict
-encodeVerdict n c a room =
-    demand (leb n 536870912) LengthOutOfRange
-    (demand (codable c a) FormatWrong
-    (demand (eqb (n % c) 0) NotWholeFrames
-    (demand (leb (blocksFor c a n * a) room) OutputTooSmall
-    Accepted)))
+encodeVerdict n c a room = decided (encodeChecks n c a room)

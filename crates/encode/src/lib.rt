@@ -2,10 +2,10 @@
 ghost use mathlib.Core.Path.{_≡_};
 ghost use Prim.Native.Nat.{_*_, _%_, _≤_};
 ghost use lib.ListN.{length};
-ghost use Rattle.little.specs.Writing.{front};
+ghost use Rattle.little.specs.Writing.{front, holding};
 ghost use Rattle.units.specs.declared.Verdict.the-variants.{Accepted};
 ghost use Rattle.encode.specs.Encoding.{codable, blocksFor, encodeVerdict, encodedBytes, chasedCount};
-ghost use Rattle.encode.specs.Answer.{codedOf, encoding, holding};
+ghost use Rattle.encode.specs.Answer.{codedOf, encoding, encodedVerdict};
 use ima_code::ImaState;
 use ima_code::STEPS;
 use ima_coder::Channel;
@@ -161,7 +161,7 @@ fn write_blocks(sound: &[i16], channels: usize, align: usize, out: &mut [u8]) ->
 // Encodes a sound as IMA blocks, from the start of a lent buffer.
 pub fn encode(sound: &[i16], channels: u16, align: u16, out: &mut [u8]) -> Encoded
     ensures answer { λ r. ⌜ r ≡ encoding (now (sound .entry)) channels align (length (now (out .entry))) ⌝ }
-    ensures buffer { λ r. ⌜ now (out .exit) ≡ holding r (encodedBytes channels align (now (sound .entry))) (now (out .entry)) ⌝ }
+    ensures buffer { λ r. ⌜ now (out .exit) ≡ holding (encodedVerdict r) (encodedBytes channels align (now (sound .entry))) (now (out .entry)) ⌝ }
 {
     let verdict = settled(sound.len(), channels as usize, align as usize, out.len());
     match verdict {

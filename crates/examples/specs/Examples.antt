@@ -10,8 +10,8 @@ use Rattle.formats.specs.declared.Format.{Format}
 use Rattle.ima_code.specs.declared.ImaState.{ImaState}
 use Rattle.ima_code.specs.Code.{codeFor, tracked, isChased}
 use Rattle.encode.specs.Encoding.{encodedBytes, chasedCount}
-use Rattle.sound_data.specs.Sound.{blockSound, wholeSound}
-use Rattle.decode.specs.Decoding.{blockVerdict}
+use Rattle.sound_data.specs.Sound.{wholeSound}
+use Rattle.decode.specs.Decoding.{wholeVerdict}
 
 -- what the definitions give, and what document 01 prints
 pub record Example : Type 0 where
@@ -34,13 +34,13 @@ written s = map pos (encodedBytes 1 12 s) ++ (pos (chasedCount 1 12 s 0) ∷ [])
 unfoldable pub mono : ℕ → ℕ → ℕ → ℕ → Format
 mono tag bits align samples = record { tag = tag; channels = 1; rate = 8000; bits = bits; align = align; samples = samples }
 
--- the number of decoding an IMA block of 8 bytes, which has 9 samples, whose header holds an index
+-- the number of decoding sound data that are an IMA block of 8 bytes, which has 9 samples, whose header holds an index
 unfoldable pub headed : ℕ → List ℤ
-headed i = pos (verdictNumber (blockVerdict (mono 17 4 8 9) (0 ∷ 0 ∷ i ∷ 0 ∷ 0 ∷ 0 ∷ 0 ∷ 0 ∷ []) 0 9)) ∷ []
+headed i = pos (verdictNumber (wholeVerdict (mono 17 4 8 9) 9 (0 ∷ 0 ∷ i ∷ 0 ∷ 0 ∷ 0 ∷ 0 ∷ 0 ∷ []) 9)) ∷ []
 
--- the sound of a Microsoft block of 8 bytes, which has 4 samples
+-- the sound of data that are a Microsoft block of 8 bytes, which has 4 samples
 unfoldable pub microsoft : List ℕ → List ℤ
-microsoft block = blockSound (mono 2 4 8 4) block 0
+microsoft block = wholeSound (mono 2 4 8 4) 4 block
 
 -- the sound of 8-bit PCM, n frames
 unfoldable pub eights : ℕ → List ℕ → List ℤ

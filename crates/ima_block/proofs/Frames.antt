@@ -9,7 +9,7 @@ use Rattle.lists.proofs.Turns.{picked-long}
 use Rattle.ima_code.specs.declared.ImaState.{ImaState}
 use Rattle.ima_code.specs.Code.{afterCode}
 use Rattle.ima_code.specs.Machine.{run}
-use Rattle.ima_block.specs.Block.{imaSamples, channelPart, imaOpened, lowFirst, imaHeard, imaSound}
+use Rattle.ima_block.specs.Block.{imaSamples, channelPart, imaOpened, lowFirst, imaHeard, imaSound, statesIn}
 
 nibbles-long : (bytes : List ℕ) → length (lowFirst bytes) ≡ 2 * length bytes
 unfolding lowFirst
@@ -22,7 +22,7 @@ heard-long t bytes =
     length-map (run t (lowFirst bytes)) (λ s. s .last) ∙ through-long afterCode t (lowFirst bytes) ∙ nibbles-long bytes
 
 part-sounds : (p : List ℕ) (n : ℕ) → length p ≡ 4 * n → 1 ≤ n → length (imaSound p) ≡ 8 * n - 7
-unfolding imaSound
+unfolding imaSound statesIn imaHeard
 part-sounds p n e h = omega (arith, heard-long (imaOpened p) (drop 4 p), length-drop 4 p)
 
 -- as many as samples per block says

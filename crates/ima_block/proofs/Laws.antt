@@ -16,7 +16,7 @@ use Rattle.lists.proofs.Turns.{turn-room}
 use Rattle.samples.specs.Sound.{sampleAt}
 use Rattle.samples.proofs.Signed.{back}
 use Rattle.ima_code.specs.declared.ImaState.{ImaState}
-use Rattle.ima_block.specs.Block.{imaSamples, channelPart, imaHeadersValid, imaHeard, imaSound, imaFrames}
+use Rattle.ima_block.specs.Block.{imaSamples, channelPart, imaHeadersValid, imaHeard, imaSound, statesIn, imaFrames}
 use Rattle.ima_block.proofs.Parts.{part-one, opened-one, opened-left, opened-right, index-one, index-left, index-right}
 
 -- ---- mono
@@ -44,7 +44,7 @@ module _ (s : List ℕ) (n : ℕ) (h : 4 ≤ length s) where
     codes = inTurn 1 (n - 1) (imaHeard t (drop 4 s) ∷ [])
 
     pub mono-frames : imaFrames 1 n s ≡ t .last ∷ codes
-    unfolding imaFrames values inTurn joined imaSound
+    unfolding imaFrames values inTurn joined imaSound statesIn imaHeard
     mono-frames =
         let k : n ≡ suc (n - 1) = omega arith in
         ap (λ (k : ℕ). imaFrames 1 k s) k
@@ -96,7 +96,7 @@ module _ (s : List ℕ) (n : ℕ) (h : 8 ≤ length s) where
     pairs x y = inTurn 1 (n - 1) (imaHeard x (drop 4 (channelPart 2 s 0)) ∷ imaHeard y (drop 4 (channelPart 2 s 1)) ∷ [])
 
     pub stereo-frames : imaFrames 2 n s ≡ l .last ∷ r .last ∷ pairs l r
-    unfolding imaFrames values inTurn joined imaSound
+    unfolding imaFrames values inTurn joined imaSound statesIn imaHeard
     stereo-frames =
         let k : n ≡ suc (n - 1) = omega arith in
         let x = sym (opened-left s h a b) in

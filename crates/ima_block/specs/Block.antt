@@ -38,7 +38,7 @@ imaHeard t bytes = map (λ s. s .last) (run t (lowFirst bytes))
 
 -- the sound of a channel
 unfoldable pub imaSound : List ℕ → List ℤ
-imaSound p = imaOpened p .last ∷ imaHeard (imaOpened p) (drop 4 p)
+imaSound p = map (λ s. s .last) (statesIn p)
 
 -- the sound of a block, its first n frames: one sample of each channel in turn
 unfoldable pub imaFrames : ℕ → ℕ → List ℕ → List ℤ

@@ -1,19 +1,19 @@
 -- Demand 3 of one sample: how near it is decoded, by arithmetic over the eight ways to set the bits. Assumes nothing.
 use mathlib.Core.Path.{_≡_, sym, _∙_, ap, subst}
 use mathlib.Core.Bool.{Bool, true, false, cond}
-use Prim.Native.Nat.{ℕ, _+_, _-_, _*_, _/_, _%_, _≤_, _<_, min}
+use Prim.Native.Nat.{ℕ, suc, _+_, _-_, _*_, _/_, _%_, _≤_, _<_, min}
 use native.Mathlib.Omega.{arith}
 use lib.Dec.{ltb}
-use lib.IntN.{ℤ, pos, natAbs, _-ℤ_}
-use lib.Signed.{ltZ}
+use lib.IntN.{ℤ, pos, negsuc, natAbs, _-ℤ_}
+use lib.Signed.{ltZ, _≤ℤ_}
 use mir.Syntax.{w16}
 use mir.Val.{SFits}
-use borrow.Author.Tests.{leb-true, leb-false}
+use borrow.Author.Tests.{leb-true, leb-false, le-leb, lt-leb}
 use Rattle.samples.proofs.Signed.{Is, by-leb, by-ltb, is-pos, is-neg, is-add, is-gap, is-abs, is-lt, is-le, le-is}
 use Rattle.samples.proofs.Laws.{Raised, raised, hold-is}
 use Rattle.ima_code.specs.declared.ImaState.{ImaState}
 use Rattle.ima_code.specs.Code.{stepAt, hasBit, differenceSize, signedBy, indexFrom, afterCode, bitsFor, codeOf, codeFor, tracked, isChased}
-use Rattle.ima_code.specs.Quality.{InRange, Faithful}
+use Rattle.ima_code.specs.Quality.{InRange, Faithful, Between, Later}
 use Rattle.ima_code.proofs.Table.{step-range}
 use Rattle.ima_code.proofs.Laws.{index-up}
 use Rattle.ima_code.proofs.Coding.{bits-7, bits-6, bits-5, bits-4, bits-3, bits-2, bits-1, bits-0, bits-below, code-low, code-says}
@@ -196,3 +196,37 @@ module _ (t : ImaState) (x : ℤ) (e : isChased t x ≡ true) where
   pub chased-index : tracked t x .index ≡ min (t .index + 8) 88
   unfolding tracked afterCode
   chased-index = ap (indexFrom (t .index)) chased-code ∙ omega (arith, index-up (t .index) 7 (omega arith) (omega arith))
+
+-- ---- in the words of the demand: numbers are raised until none of the three is below 0
+abbrev up : ℤ → ℕ → ℕ
+up (pos m) n = n + m
+up (negsuc m) n = n - suc m
+
+lifted : (z : ℤ) (n : ℕ) → natAbs z ≤ n → Is z (up z n) n
+lifted (pos m) n h = omega arith
+lifted (negsuc m) n h = omega arith
+
+-- nearer and not beyond is between
+between : {p y x : ℤ} → natAbs (y -ℤ x) < natAbs (p -ℤ x) → (p ≤ℤ x → y ≤ℤ x) → (x ≤ℤ p → x ≤ℤ y) → Between p y x
+between {p} {y} {x} near below above =
+    let n : ℕ = natAbs p + natAbs y + natAbs x in
+    let a = lifted p n (omega arith) in
+    let b = lifted y n (omega arith) in
+    let c = lifted x n (omega arith) in
+    let d = is-abs (is-gap b c) in
+    let e = is-abs (is-gap a c) in
+    record {
+      up = λ h. (is-le a b (omega (arith, le-is a c h, le-is b c (below h))), below h);
+      down = λ h. (above h, is-le b a (omega (arith, le-is c a h, le-is c b (above h))));
+    }
+
+pub in-words : {t : ImaState} {x y : ℤ} → Faithful t x y → Later x y (t .last) (stepAt (t .index))
+unfolding isChased
+in-words {t} {x} w =
+    let s : ℕ = 2 * stepAt (t .index) in
+    let m : ℕ = natAbs (x -ℤ t .last) in
+    record {
+      close = λ h. w .close (lt-leb s m h);
+      nearer = λ h. w .nearer (le-leb s m h);
+      between = λ h. between (w .nearer (le-leb s m h)) (w .below (le-leb s m h)) (w .above (le-leb s m h));
+    }

@@ -1,5 +1,5 @@
 -- What demand 3 says of one sample and of samples in succession. Assumes nothing.
-use Prim.Native.Nat.{ℕ, zero, suc, _+_, _/_, _≤_, _<_}
+use Prim.Native.Nat.{ℕ, zero, suc, _+_, _*_, _/_, _≤_, _<_}
 use mathlib.Core.Path.{_≡_}
 use mathlib.Core.Bool.{Bool, true, false}
 use mathlib.Core.List.{List, [], _∷_}
@@ -29,6 +29,18 @@ pub record Faithful (t : ImaState) (x y : ℤ) : Type 0 where
   -- and not beyond the original, from below or from above
   pub below : isChased t x ≡ true → t .last ≤ℤ x → y ≤ℤ x
   pub above : isChased t x ≡ true → x ≤ℤ t .last → x ≤ℤ y
+
+-- y is between p and x, whichever of the two is the lower
+pub record Between (p y x : ℤ) : Type 0 where
+  pub up : p ≤ℤ x → (p ≤ℤ y) × (y ≤ℤ x)
+  pub down : x ≤ℤ p → (x ≤ℤ y) × (y ≤ℤ p)
+
+-- the same in the words of the demand: x is the original, y and p are the decoded samples of this frame and of the one before it,
+-- and s is the current step
+pub record Later (x y p : ℤ) (s : ℕ) : Type 0 where
+  pub close : natAbs (x -ℤ p) < 2 * s → natAbs (y -ℤ x) ≤ s / 8 + 2
+  pub nearer : 2 * s ≤ natAbs (x -ℤ p) → natAbs (y -ℤ x) < natAbs (p -ℤ x)
+  pub between : 2 * s ≤ natAbs (x -ℤ p) → Between p y x
 
 -- no more than n in succession; k more of them are allowed where the list begins
 unfoldable pub within : ℕ → ℕ → List Bool → Bool

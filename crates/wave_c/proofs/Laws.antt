@@ -80,15 +80,15 @@ module _ {x y : Decoded} (e : x ≡ y) where
   pub decoded-told : {r : Answer} → r ≡ ofDecoded x → r ≡ ofDecoded y
   decoded-told f = f ∙ ap ofDecoded e
 
-  pub decoded-held : (ys d : List ℤ) {z : List ℤ} → z ≡ decodes.holding x ys d → z ≡ decodes.holding y ys d
-  decoded-held ys d f = f ∙ ap (λ (v : Decoded). decodes.holding v ys d) e
+  pub decoded-held : (ys d : List ℤ) {z : List ℤ} → z ≡ holding (decodes.decodedVerdict x) ys d → z ≡ holding (decodes.decodedVerdict y) ys d
+  decoded-held ys d f = f ∙ ap (λ (v : Decoded). holding (decodes.decodedVerdict v) ys d) e
 
 module _ {x y : Encoded} (e : x ≡ y) where
   pub encoded-told : {r : CodedAnswer} → r ≡ ofEncoded x → r ≡ ofEncoded y
   encoded-told f = f ∙ ap ofEncoded e
 
-  pub encoded-held : (ys d : List ℕ) {z : List ℕ} → z ≡ encodes.holding x ys d → z ≡ encodes.holding y ys d
-  encoded-held ys d f = f ∙ ap (λ (v : Encoded). encodes.holding v ys d) e
+  pub encoded-held : (ys d : List ℕ) {z : List ℕ} → z ≡ holding (encodes.encodedVerdict x) ys d → z ≡ holding (encodes.encodedVerdict y) ys d
+  encoded-held ys d f = f ∙ ap (λ (v : Encoded). holding (encodes.encodedVerdict v) ys d) e
 
 pub ruleset passing = (written-told, written-held, decoded-told, decoded-held, encoded-told, encoded-held)
 

@@ -18,10 +18,8 @@ ghost use Rattle.riff.specs.Walk.{partOf};
 ghost use Rattle.little.specs.Writing.{holding};
 ghost use Rattle.writer.specs.File.{fileOf, writing, writtenVerdict};
 ghost use Rattle.encode.specs.Encoding.{encodedBytes};
-ghost use Rattle.encode.specs.Answer.{encoding};
-ghost use Rattle.encode.specs.Answer as encodes;
-ghost use Rattle.decode.specs.Decoding.{decoding, blockDecoding, fileSound, fileBlock};
-ghost use Rattle.decode.specs.Decoding as decodes;
+ghost use Rattle.encode.specs.Answer.{encoding, encodedVerdict};
+ghost use Rattle.decode.specs.Decoding.{decoding, blockDecoding, fileSound, fileBlock, decodedVerdict};
 ghost use Rattle.side.specs.Adding.{adding, newFile, emptySide};
 ghost use Rattle.words.specs.Words.{recordWords, recordFrom};
 ghost use Rattle.wave_c.specs.Interface.{refusedBy, done, ofWritten, ofDecoded, ofEncoded, answerBy, enough, readVerdict, startOf, wordsValid, wordsWriting};
@@ -214,7 +212,7 @@ pub extern "C" fn tronalhet_write(given: &[u32], sound: &[u8], out: &mut [u8]) -
 #[no_mangle]
 pub extern "C" fn tronalhet_decode(file: &[u8], out: &mut [i16]) -> Answer
     ensures answer { λ r. ⌜ r ≡ ofDecoded (decoding (now (file .entry)) (length (now (out .entry)))) ⌝ }
-    ensures buffer { λ r. ⌜ now (out .exit) ≡ decodes.holding (decoding (now (file .entry)) (length (now (out .entry))))
+    ensures buffer { λ r. ⌜ now (out .exit) ≡ holding (decodedVerdict (decoding (now (file .entry)) (length (now (out .entry)))))
         (fileSound (now (file .entry))) (now (out .entry)) ⌝ }
 {
     let answer = wave::decode(file, out);
@@ -225,7 +223,8 @@ pub extern "C" fn tronalhet_decode(file: &[u8], out: &mut [i16]) -> Answer
 #[no_mangle]
 pub extern "C" fn tronalhet_decode_block(file: &[u8], block: u32, out: &mut [i16]) -> Answer
     ensures answer { λ r. ⌜ r ≡ ofDecoded (blockDecoding (now (file .entry)) block (length (now (out .entry)))) ⌝ }
-    ensures buffer { λ r. ⌜ now (out .exit) ≡ decodes.holding (blockDecoding (now (file .entry)) block (length (now (out .entry))))
+    ensures buffer { λ r. ⌜ now (out .exit)
+        ≡ holding (decodedVerdict (blockDecoding (now (file .entry)) block (length (now (out .entry)))))
         (fileBlock (now (file .entry)) block) (now (out .entry)) ⌝ }
 {
     let answer = wave::decode_block(file, block, out);
@@ -241,7 +240,8 @@ pub extern "C" fn tronalhet_encode(
     out: &mut [u8],
 ) -> CodedAnswer
     ensures answer { λ r. ⌜ r ≡ ofEncoded (encoding (now (sound .entry)) channels align (length (now (out .entry)))) ⌝ }
-    ensures buffer { λ r. ⌜ now (out .exit) ≡ encodes.holding (encoding (now (sound .entry)) channels align (length (now (out .entry))))
+    ensures buffer { λ r. ⌜ now (out .exit)
+        ≡ holding (encodedVerdict (encoding (now (sound .entry)) channels align (length (now (out .entry)))))
         (encodedBytes channels align (now (sound .entry))) (now (out .entry)) ⌝ }
 {
     let answer = wave::encode(sound, channels, align, out);
