@@ -7,3 +7,4 @@ pub mod Back
 pub mod Room
 pub mod Demands
 pub mod Bytes
+pub mod Promise

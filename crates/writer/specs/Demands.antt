@@ -20,6 +20,7 @@ use Rattle.rules.specs.declared.Record.{Record}
 use Rattle.rules.specs.Written.{recordKept, RecordFits}
 use Rattle.reader.specs.Content.{reading, soundIn}
 use Rattle.writer.specs.declared.Written.the-variants.{Bytes, Refused}
+use Rattle.writer.specs.Promise.{writeNumber}
 use Rattle.writer.specs.File.{sizeOf, fileOf, writing, writtenNumber}
 
 -- ---- a written file, n bytes long, reads back to the same record, zero past the counts, and to the sound handed over, byte for byte
@@ -70,16 +71,6 @@ SameNumber =
     (m : Record) (w : List ℕ) (room : ℕ) (r : Refusal) → RecordFits m → Carries m w r → writing m w room ≡ Refused r
     → reading (fileOf m w) .verdict ≡ verdict.Refused r
 
--- ---- the number of an answer, in the order of checks and the numbers of document 01; 0 where the file is written
+-- ---- the number of an answer, in the order of checks and the numbers of document 01
 unfoldable pub WriteNumbered : Type 0
-WriteNumbered =
-    (m : Record) (w : List ℕ) (room : ℕ)
-    → writtenNumber (writing m w room)
-    ≡ cond (not (formatRule (m .format))) 9
-    (cond (not (wholeBlocks (m .format) (sizeOf w))) 10
-    (cond (not (framesRule (m .format) (sizeOf w) (m .frames))) 11
-    (cond (not (cuesRule (m .cues) (m .frames))) 12
-    (cond (not (playsRule (m .playlist) (m .cues) (m .frames))) 13
-    (cond (not (leb (length (fileOf m w)) fileLimit)) 1
-    (cond (not (leb (length (fileOf m w)) room)) 14
-    0))))))
+WriteNumbered = (m : Record) (w : List ℕ) (room : ℕ) → writtenNumber (writing m w room) ≡ writeNumber m w room

@@ -1,0 +1,31 @@
+-- The promise of writing, from the answer and the buffer; and that it leaves one of each. Assumes nothing.
+use mathlib.Core.Path.{_≡_, refl, sym, ap, _∙_}
+use mathlib.Core.List.{List}
+use Prim.Native.Nat.{ℕ}
+use lib.ListN.{length}
+use Rattle.little.specs.Writing.{holding}
+use Rattle.units.specs.declared.BytePlace.{BytePlace}
+use Rattle.rules.specs.declared.Record.{Record}
+use Rattle.writer.specs.declared.Written.{Written}
+use Rattle.writer.specs.File.{fileOf, writing, writtenVerdict, writtenNumber}
+use Rattle.writer.specs.Promise.{WritePromise, OneWriting}
+use Rattle.writer.specs.Demands.{WriteNumbered}
+use Rattle.writer.proofs.Settling.{told-long}
+use Rattle.writer.proofs.Demands.{numbered}
+
+pub writes : (m : Record) (w d : List ℕ) {r : Written} {e : List ℕ} → r ≡ writing m w (length d)
+    → e ≡ holding (writtenVerdict r) (fileOf m w) d → WritePromise m w d r e
+unfolding WriteNumbered
+writes m w d {r} f g =
+    record {
+      answer = f;
+      number = ap writtenNumber f ∙ numbered m w (length d);
+      size = λ n h. ap (λ (x : BytePlace). x .0) (told-long m w (length d) n (sym f ∙ h));
+      buffer = g;
+    }
+
+pub one-writing : OneWriting
+unfolding OneWriting
+one-writing m w d r r′ e e′ p q =
+    let same : r ≡ r′ = p .answer ∙ sym (q .answer) in
+    (same, p .buffer ∙ ap (λ (x : Written). holding (writtenVerdict x) (fileOf m w) d) same ∙ sym (q .buffer))
