@@ -166,6 +166,10 @@ no-fault {m} {n} k =
     taken : {r : Refusal} → _≡_ {A = Verdict} Accepted (Refused r) → ⊥
     taken e = let z : _≡_ {A = ℕ} 0 1 = cc in omega arith
 
+-- ---- one check more that is the same
+same-next : {r : Refusal} {x y : Bool} {After : Type 0} → x ≡ y → (y ≡ true → After) → (r ≡ r) × (x ≡ y) × (y ≡ true → After)
+same-next e f = (refl, e, f)
+
 -- ---- all chunks
 module _ (m : Record) (n : BytePlace) (h : RecordFits m) {fact : List ℕ}
     (e : formatRule (m .format) ≡ true → fact ≡ cond (needsFact (m .format)) (factBytes (m .frames)) zeros) where
@@ -175,30 +179,16 @@ module _ (m : Record) (n : BytePlace) (h : RecordFits m) {fact : List ℕ}
   pub verdict-back : FaultSaid m n → verdictOf b (recordOf b) ≡ recordVerdict m n
   unfolding chunkChecks recordChecks recordOf SameSoFar
   verdict-back k =
-      same-verdict (chunkChecks b (recordOf b)) (recordChecks m n) (
-        refl,
-        format-same m n h k,
-        λ f. (
-          refl,
-          ap (λ (g : Format). wholeBlocks g n) (format-back (m .format) f),
-          λ w. (
-            refl,
-            ap (λ (g : Format). factValid fact g n (framesOf g n fact)) (format-back (m .format) f) ∙ frames-same m n h k f w (e f),
-            λ c.
-                let said : recordOf b .frames ≡ m .frames =
-                ap (λ (g : Format). framesOf g n fact) (format-back (m .format) f) ∙ counted m n h k f w (e f) c in (
-                  refl,
-                  ap (cuesValid (b .cues) (cuesOf (b .cues))) said ∙ cues-same (m .cues) (h .cues) (m .frames),
-                  λ _. (
-                    refl,
-                    ap (playsValid (b .plays) (playsOf (b .plays)) (cuesOf (b .cues))) said ∙ plays-same (m .cues) (h .cues) (m .frames) (m .playlist) (h .plays),
-                    λ _.
-                        tt,
-                  ),
-                ),
-          ),
-        ),
-      )
+      same-verdict (chunkChecks b (recordOf b)) (recordChecks m n)
+      (same-next (format-same m n h k) (λ f.
+      same-next (ap (λ (g : Format). wholeBlocks g n) (format-back (m .format) f)) (λ w.
+      same-next (ap (λ (g : Format). factValid fact g n (framesOf g n fact)) (format-back (m .format) f) ∙ frames-same m n h k f w (e f)) (λ c.
+      same-next (ap (cuesValid (b .cues) (cuesOf (b .cues))) (said f w c) ∙ cues-same (m .cues) (h .cues) (m .frames)) (λ _.
+      same-next (ap (playsValid (b .plays) (playsOf (b .plays)) (cuesOf (b .cues))) (said f w c) ∙ plays-same (m .cues) (h .cues) (m .frames) (m .playlist) (h .plays)) (λ _. tt))))))
+    where
+      said : formatRule (m .format) ≡ true → wholeBlocks (m .format) n ≡ true → framesRule (m .format) n (m .frames) ≡ true
+          → framesOf (formatOf (b .format)) n fact ≡ m .frames
+      said f w c = ap (λ (g : Format). framesOf g n fact) (format-back (m .format) f) ∙ counted m n h k f w (e f) c
 
   pub record-back : Writable m n → recordOf b ≡ recordKept m
   unfolding recordOf recordKept

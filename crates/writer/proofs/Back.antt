@@ -85,14 +85,7 @@ module _ (m : Record) (w : List ℕ) (h : RecordFits m) (k : FaultSaid m (sizeOf
 
   -- ---- what they say, and the verdict on them
   bytes-at : chunksAt s d ≡ writtenBytes m n (factPart s d)
-  bytes-at =
-      λ i. record {
-        format = format-part i;
-        sound = record { 0 = length (sound-part i) };
-        fact = factPart s d;
-        cues = cue-part i;
-        plays = playlist-part i;
-      }
+  bytes-at = λ i. record { format = format-part i; sound = sizeOf (sound-part i); fact = factPart s d; cues = cue-part i; plays = playlist-part i }
 
   verdict-at : verdictAt s d ≡ recordVerdict m n
   unfolding checksAt decided

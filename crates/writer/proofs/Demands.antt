@@ -30,7 +30,7 @@ use Rattle.writer.specs.declared.Written.the-variants.{Bytes}
 use Rattle.writer.specs.declared.Written.the-variants as written
 use Rattle.writer.specs.File.{sizeOf, fileOf, writeChecks, settled, writtenBy, writing, writtenNumber}
 use Rattle.writer.specs.Demands.{Back, Again, fileAgain, Same, SameNumber, WriteNumbered}
-use Rattle.writer.proofs.Settling.{settled-then, told-long, settled-says}
+use Rattle.writer.proofs.Settling.{settled-then, writing-by, told-long, settled-says}
 pub use Rattle.writer.proofs.Settling.{bytes-say}
 use Rattle.writer.proofs.Back.{content-back}
 use Rattle.writer.proofs.Room.{not-longer}
@@ -66,12 +66,9 @@ back m w room n h e =
 -- ---- what is read is written again
 pub accepted : (m : Record) (w : List ℕ) (room : ℕ) → Writable m (sizeOf w) → length (fileOf m w) ≤ fileLimit → length (fileOf m w) ≤ room
     → writing m w room ≡ Bytes (sizeOf (fileOf m w))
-unfolding writing decided
 accepted m w room k l r =
-    let a = record-taken k in
-    let b = le-leb (length (fileOf m w)) fileLimit l in
-    let c = le-leb (length (fileOf m w)) room r in
-    simp (settled-then, a, b, c)
+    let file : ℕ = length (fileOf m w) in
+    writing-by m w room refl refl (record-taken k) (le-leb file fileLimit l) (le-leb file room r)
 
 pub again : Again
 unfolding Again

@@ -1,6 +1,6 @@
 -- The answer to writing, in the words of the code; and what it says where the file is written. Assumes nothing.
 use mathlib.Core.Path.{_≡_, refl, sym, ap, _∙_}
-use mathlib.Core.Bool.{true, false}
+use mathlib.Core.Bool.{Bool, false, cond}
 use mathlib.Core.List.{List}
 use Prim.Native.Nat.{ℕ, _≤_, _<_}
 use native.Mathlib.Omega.{arith}
@@ -42,37 +42,31 @@ module _ (m : Record) (w : List ℕ) (room : ℕ) where
   longer = omega (arith, length-laid (partsOf m w))
 
   module _ {v : Verdict} {k : ℕ} (a : k ≡ length w) (e : v ≡ recordVerdict m (record { 0 = k })) where
-    writing-by : {u : Verdict} → v ≡ u
-        → writing m w room ≡ writtenBy (andThen u (decided (fileChecks (fileOf m w) room))) (sizeOf (fileOf m w))
-    unfolding writing
-    writing-by f = simp (settled-then, ← a, ← e, f)
+    pub writing-by : {u : Verdict} {x y : Bool} → v ≡ u → leb file fileLimit ≡ x → leb file room ≡ y
+        → writing m w room
+        ≡ writtenBy (andThen u (cond x (cond y Accepted (Refused OutputTooSmall)) (Refused LengthOutOfRange))) (sizeOf (fileOf m w))
+    unfolding writing decided
+    writing-by f i j = simp (settled-then, ← a, ← e, f, i, j)
 
     pub settle-ruled : {r : Refusal} → v ≡ Refused r → written.Refused r ≡ writing m w room
-    settle-ruled f = sym (writing-by f)
+    settle-ruled f = sym (writing-by f refl refl)
 
     module _ (f : v ≡ Accepted) where
       pub settle-long : fileLimit < k → written.Refused LengthOutOfRange ≡ writing m w room
-      unfolding decided
-      settle-long h = let l : leb file fileLimit ≡ false = lt-leb file fileLimit (omega (arith, longer)) in sym (writing-by f ∙ simp l)
+      settle-long h = sym (writing-by f (lt-leb file fileLimit (omega (arith, longer))) refl)
 
       module _ {size : ℕ} (g : size ≡ file) where
         pub settle-limit : (most : ℕ) → most < size → fileLimit ≤ most → written.Refused LengthOutOfRange ≡ writing m w room
-        unfolding decided
-        settle-limit most h i = let l : leb file fileLimit ≡ false = lt-leb file fileLimit (omega arith) in sym (writing-by f ∙ simp l)
+        settle-limit most h i = sym (writing-by f (lt-leb file fileLimit (omega arith)) refl)
 
         module _ (h : size ≤ fileLimit) where
-          l : leb file fileLimit ≡ true
-          l = le-leb file fileLimit (omega arith)
-
           pub settle-room : room < size → written.Refused OutputTooSmall ≡ writing m w room
-          unfolding decided
-          settle-room i = let j : leb file room ≡ false = lt-leb file room (omega arith) in sym (writing-by f ∙ simp (l, j))
+          settle-room i = sym (writing-by f (le-leb file fileLimit (omega arith)) (lt-leb file room (omega arith)))
 
           pub settle-taken : size ≤ room → Bytes (record { 0 = size }) ≡ writing m w room
-          unfolding decided
           settle-taken i =
-              let j : leb file room ≡ true = le-leb file room (omega arith) in
-              ap (λ (n : ℕ). Bytes (record { 0 = n })) g ∙ sym (writing-by f ∙ simp (l, j))
+              ap (λ (n : ℕ). Bytes (record { 0 = n })) g
+              ∙ sym (writing-by f (le-leb file fileLimit (omega arith)) (le-leb file room (omega arith)))
 
   -- a format that breaks its rule is the first to be told
   pub format-refused : formatRule (m .format) ≡ false → writing m w room ≡ written.Refused FormatWrong
