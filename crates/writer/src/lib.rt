@@ -22,6 +22,7 @@ ghost use Rattle.little.specs.Writing.{Put, holding};
 ghost use Rattle.formats.specs.Format.{formatRule};
 ghost use Rattle.formats.specs.Frames.{needsFact};
 ghost use Rattle.formats.specs.Bytes.{formatBytes};
+ghost use Rattle.rules.specs.Written.{RecordFits};
 ghost use Rattle.riff.specs.Laying.{piece, padBytes, pieceBytes, partBytes, extentIf};
 ghost use Rattle.writer.specs.declared.Written.the-variants.{Bytes};
 ghost use Rattle.writer.specs.Promise.{WritePromise};
@@ -244,9 +245,11 @@ fn put_file(made: Record, first: &[u8], second: &[u8], size: BytePlace, out: &mu
     Written::Bytes(size)
 }
 
-// Writes a record and its sound as a file, from the start of a lent buffer.
+// Writes a record and its sound as a file, from the start of a lent buffer. That the record fits its
+// fields, by its types, is what `Back` and `SameNumber` of specs/Demands.antt ask of it.
 pub fn write(made: Record, sound: &[u8], out: &mut [u8]) -> Written
     ensures promise { λ r. ⌜ WritePromise made (now (sound .entry)) (now (out .entry)) r (now (out .exit)) ⌝ }
+    ensures fits { λ _. ⌜ RecordFits made ⌝ }
 {
     write_joined(made, sound, b"", out)
 }
@@ -256,6 +259,7 @@ pub fn write_joined(made: Record, first: &[u8], second: &[u8], out: &mut [u8]) -
     ensures answer { λ r. ⌜ r ≡ writing made (now (first .entry) ++ now (second .entry)) (length (now (out .entry))) ⌝ }
     ensures buffer { λ r. ⌜ now (out .exit)
         ≡ holding (writtenVerdict r) (fileOf made (now (first .entry) ++ now (second .entry))) (now (out .entry)) ⌝ }
+    ensures fits { λ _. ⌜ RecordFits made ⌝ }
 {
     let answer = settle(made, first, second, out.len());
     let Written::Bytes(size) = answer else {
