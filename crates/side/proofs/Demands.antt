@@ -21,7 +21,7 @@ use Rattle.writer.proofs.Demands.{bytes-say, content-written, back}
 use Rattle.writer.proofs.Bytes.{file-bytes}
 use Rattle.side.specs.Side.{Song, isSideFile, songsIn, isListed, listedSound}
 use Rattle.side.specs.Adding.{suits, withSong, newRecord, newSound, newFile}
-use Rattle.side.specs.Demands.{Sent, fileWith, songFrom, Adds, Grown, Grows, StaysWithin, Listed, OnceListed, AddedAgain}
+use Rattle.side.specs.Demands.{Sent, fileWith, songFrom, Grown, Grows, StaysWithin, Listed, OnceListed, AddedAgain}
 use Rattle.side.proofs.Growing.{songs-count}
 use Rattle.side.proofs.Answers.{added-says, empty-added, listed-added}
 use Rattle.side.proofs.Sides.{held-made, held-sound, held-side, held-songs, standing, song-long}
@@ -101,29 +101,22 @@ once-listed s x a l b c = by (leb 1 (fileFrames (x .file))) refl
         }
 
 -- in the file that adding x made its number is listed, with its sound
-module _ (s : List ℕ) (x : Sent) (n : BytePlace) (h : Adds s x n) where
-  abbrev own : List Song
-  own = songFrom (fileFrames s) x ∷ []
-
-  made : Grown s x n
-  unfolding Grows
-  made = grows s x n h
-
-  fresh : isListed (x .number) (songsIn s) ≡ false
-  fresh = added-says s x n (h .answer) .0 .fresh
+module _ {s : List ℕ} {x : Sent} {n : BytePlace} (g : Grown s x n) (f : isListed (x .number) (songsIn s) ≡ false) where
+  abbrev one : List Song
+  one = songFrom (fileFrames s) x ∷ []
 
   pub own-listed : isListed (x .number) (songsIn (fileWith s x)) ≡ true
   unfolding isListed
   own-listed =
-      ap (isListed (x .number)) (made .songs)
-      ∙ listed-behind (x .number) (songsIn s) own fresh
+      ap (isListed (x .number)) (g .songs)
+      ∙ listed-behind (x .number) (songsIn s) one f
       ∙ ap (λ (q : Bool). q || false) (eq-eqb (x .number .0) (x .number .0) refl)
 
   own-sound : listedSound (x .number) (songsIn (fileWith s x)) ≡ soundIn (x .file)
   unfolding listedSound
   own-sound =
-      ap (listedSound (x .number)) (made .songs)
-      ∙ sound-behind (x .number) (songsIn s) own fresh
+      ap (listedSound (x .number)) (g .songs)
+      ∙ sound-behind (x .number) (songsIn s) one f
       ∙ ap (λ (q : Bool). cond q (soundIn (x .file)) []) (eq-eqb (x .number .0) (x .number .0) refl)
 
 -- what a song under a listed number is told rests on the format of the side, and on the sound under the number
@@ -135,8 +128,10 @@ told-listed s x a l v c f e =
     subst (λ (w : List ℕ). Listed w s x) e (once-listed s x a l v (ap (λ (z : Format). suits z (fileFormat (x .file))) f ∙ c))
 
 pub added-again : AddedAgain
-unfolding AddedAgain
+unfolding AddedAgain Grows
 added-again s x y n h e v c =
     let new : List ℕ = fileWith s x in
-    told-listed new y (made s x n h .side) (ap (λ (d : Donation). isListed d (songsIn new)) e ∙ own-listed s x n h) v c
-    (made s x n h .format) (ap (λ (d : Donation). listedSound d (songsIn new)) e ∙ own-sound s x n h)
+    let g : Grown s x n = grows s x n h in
+    let f = added-says s x n (h .answer) .0 .fresh in
+    told-listed new y (g .side) (ap (λ (d : Donation). isListed d (songsIn new)) e ∙ own-listed g f) v c
+    (g .format) (ap (λ (d : Donation). listedSound d (songsIn new)) e ∙ own-sound g f)

@@ -7,6 +7,7 @@ use lib.Dec.{T}
 use lib.ListN.{length, take}
 use lib.Pow.{areBytes}
 use borrow.Author.Tests.{eqb-true}
+use Rattle.units.specs.declared.Donation.{Donation}
 use Rattle.rules.specs.declared.Record.{Record}
 use Rattle.writer.specs.declared.Written.{Written}
 use Rattle.writer.specs.declared.Written.the-variants.{Bytes, Refused}
@@ -36,14 +37,15 @@ listed-stays s x xs e = by (answerTo s x) refl
     by (Refused r) h = first-answered s x xs h
 
 pub sent-twice : SentTwice
-unfolding SentTwice
+unfolding SentTwice Grows
 sent-twice s x xs b y = by (answerTo s x) refl
   where
     by : (a : Written) → answerTo s x ≡ a → addAll s (x ∷ x ∷ xs) ≡ addAll s (x ∷ xs)
     by (Refused r) e = first-answered s x (x ∷ xs) e
     by (Bytes n) e =
         first-answered s x (x ∷ xs) e
-        ∙ listed-stays (fileWith s x) x xs (own-listed s x n (record { bytes = b; sent = y; answer = e }))
+        ∙ listed-stays (fileWith s x) x xs
+        (own-listed (grows s x n (record { bytes = b; sent = y; answer = e })) (added-says s x n e .0 .fresh))
         ∙ sym (first-answered s x xs e)
 
 -- ---- whatever is sent
@@ -68,23 +70,18 @@ none-lost (x ∷ xs) s b e y = by (answerTo s x) refl (λ t c f. none-lost xs t 
     by (Refused r) h next = next s b e
 
 -- a number that was listed is so still, with the same sound
-module _ (s : List ℕ) (xs : List Sent) (y : Sent) (b : T (areBytes s)) (e : isSideFile s ≡ true)
-    (i : isListed (y .number) (songsIn s) ≡ true) (z : AllBytewise xs) where
-  kept : Keeps s (addAll s xs)
-  unfolding NoneLost
-  kept = none-lost xs s b e z
+module _ {s t : List ℕ} (k : Keeps s t) (number : Donation) (i : isListed number (songsIn s) ≡ true) where
+  kept-listed : isListed number (songsIn t) ≡ true
+  kept-listed = ap (isListed number) (k .songs) ∙ listed-before number (songsIn s) (k .more) i
 
-  kept-listed : isListed (y .number) (songsIn (addAll s xs)) ≡ true
-  kept-listed = ap (isListed (y .number)) (kept .songs) ∙ listed-before (y .number) (songsIn s) (kept .more) i
-
-  kept-sound : listedSound (y .number) (songsIn (addAll s xs)) ≡ listedSound (y .number) (songsIn s)
-  kept-sound = ap (listedSound (y .number)) (kept .songs) ∙ sound-before (y .number) (songsIn s) (kept .more) i
+  kept-sound : listedSound number (songsIn t) ≡ listedSound number (songsIn s)
+  kept-sound = ap (listedSound number) (k .songs) ∙ sound-before number (songsIn s) (k .more) i
 
 pub still-listed : StillListed
-unfolding StillListed
+unfolding StillListed NoneLost
 still-listed s xs y b e i z v c =
-    told-listed (addAll s xs) y (kept s xs y b e i z .side) (kept-listed s xs y b e i z) v c
-    (kept s xs y b e i z .format) (kept-sound s xs y b e i z)
+    let k : Keeps s (addAll s xs) = none-lost xs s b e z in
+    told-listed (addAll s xs) y (k .side) (kept-listed k (y .number) i) v c (k .format) (kept-sound k (y .number) i)
 
 sent-behind : (xs ys : List Sent) (s : List ℕ) → addAll s (xs ++ ys) ≡ addAll (addAll s xs) ys
 unfolding addAll
@@ -92,8 +89,10 @@ sent-behind [] ys s = refl
 sent-behind (x ∷ xs) ys s = sent-behind xs ys (sideAfter (answerTo s x) s (fileWith s x))
 
 pub sent-again : SentAgain
-unfolding SentAgain addAll
-sent-again s xs y b e i z = sent-behind xs (y ∷ []) s ∙ listed-stays (addAll s xs) y [] (kept-listed s xs y b e i z)
+unfolding SentAgain NoneLost addAll
+sent-again s xs y b e i z =
+    let k : Keeps s (addAll s xs) = none-lost xs s b e z in
+    sent-behind xs (y ∷ []) s ∙ listed-stays (addAll s xs) y [] (kept-listed k (y .number) i)
 
 -- ---- along the list
 record Reached (s t : List ℕ) (xs : List Sent) : Type 0 where

@@ -28,7 +28,7 @@ use Rattle.side.specs.Side.{sixteenBit, sideRead, songsHeld, isListed, l
 unfoldable pub suits : Format → Format → Bool
 suits side song = sixteenBit song && eqb (song .channels) (side .channels) && eqb (song .rate) (side .rate)
 
--- a listed number: 18 for the same sound, else 16
+-- a listed number, by the first two of the checks below: 18 for the same sound, else 16
 unfoldable pub onceMore : List ℕ → List ℕ → Verdict
 onceMore listed sound = verdict.Refused (cond (sameBytes listed sound) AlreadyListed SongEmptyOrDifferent)
 

@@ -148,8 +148,8 @@ unfoldable pub OnceEach : List Sent → Type 0
 OnceEach [] = Unit {0}
 OnceEach (x ∷ xs) = (isSent (x .number) xs ≡ false) × OnceEach xs
 
--- there is place for x behind n songs that end at a frame: with it there are 64 songs at most, as many frames as its own limit lets
--- on, and as many bytes as the limit of files and its own room let be
+-- there is place for x behind n songs that end at a frame: they are fewer than 64, the frames with it are within its own limit, and
+-- the file with it is within the limit of files and its own room
 pub record Placed (f : Format) (n at : ℕ) (x : Sent) : Type 0 where
   pub songs : n < 64
   pub frames : at + fileFrames (x .file) ≤ x .limit .0
@@ -186,7 +186,7 @@ AllBytewise (x ∷ xs) = Bytewise x × AllBytewise xs
 unfoldable pub NoneLost : Type 0
 NoneLost = (xs : List Sent) (s : List ℕ) → T (areBytes s) → isSideFile s ≡ true → AllBytewise xs → Keeps s (addAll s xs)
 
--- so a number that a side lists is told 18 or 16 by the sound that it had then, whatever was sent in between
+-- so a number that a side lists gets 18 or 16 by the sound that it had then, whatever was sent in between
 unfoldable pub StillListed : Type 0
 StillListed =
     (s : List ℕ) (xs : List Sent) (y : Sent) → T (areBytes s) → isSideFile s ≡ true → isListed (y .number) (songsIn s) ≡ true
