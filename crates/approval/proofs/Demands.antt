@@ -20,13 +20,14 @@ use Rattle.reader.proofs.Kept.{content-kept}
 use Rattle.ima_code.specs.Quality.{Sixteen, Later}
 use Rattle.ima_code.proofs.Machine.{sixteen-none, sixteen-more}
 use Rattle.ima_code.proofs.Quality.{in-words}
-use Rattle.ima_block.specs.Block.{imaSamples, imaFrames, imaHeadersValid}
+use Rattle.formats.specs.Format.{imaSamples, codable, imaStored, imaFormat}
+use Rattle.formats.proofs.Making.{Codable, codable-is, stored-per}
+use Rattle.ima_block.specs.Block.{imaFrames, imaHeadersValid}
 use Rattle.encode.specs.declared.Coded.{Coded}
 use Rattle.encode.specs.declared.Encoded.the-variants.{Blocks}
-use Rattle.encode.specs.Encoding.{codable, blocksFor, encodedBytes, encodeVerdict}
+use Rattle.encode.specs.Encoding.{blocksFor, encodedBytes, encodeVerdict}
 use Rattle.encode.specs.Answer.{codedOf, encoding}
 use Rattle.encode.specs.Demands.{frameOf, blockOfBytes, heardAt, Heard, Quality}
-use Rattle.encode.proofs.Settling.{Codable}
 use Rattle.encode.proofs.Answers.{Settled, settled-says}
 use Rattle.encode.proofs.Blocks.{per-some, begun}
 use Rattle.encode.proofs.Frames.{block-among}
@@ -40,9 +41,9 @@ use Rattle.sound_data.specs.Sound.{channelSound, blockFrames, blockValid, block
 use Rattle.sound_data.proofs.Whole.{whole-long, frame-of-whole}
 use Rattle.decode.specs.Decoding.{wholeVerdict, decodedBy, wholeAnswer, decoding, contentSound, fileSound}
 use Rattle.decode.proofs.Checks.{whole-valid}
-use Rattle.approval.specs.Approval.{samplesOf, approvalFormat, approvalRecord}
+use Rattle.approval.specs.Approval.{approvalRecord}
 use Rattle.approval.specs.Demands.{recordFor, RulesHold, stepAfter, Approved, WholeWay, CopyWritten, Met}
-use Rattle.approval.proofs.Rules.{samples-per, codable-is, blocks-are, rules-hold}
+use Rattle.approval.proofs.Rules.{blocks-are, rules-hold}
 use Rattle.approval.proofs.Sending.{kept-same, record-fits, file-below}
 
 -- ---- what an answer that is blocks says
@@ -53,16 +54,16 @@ encoded-says s c a room w e =
 
 -- ---- a block of the copy is an IMA block
 module _ (c rate a : ℕ) where
-  block-is : (w : List ℕ) (k : ℕ) → blockAt (approvalFormat c rate a) w k ≡ blockOfBytes a w k
-  unfolding blockAt blockOfBytes approvalFormat
+  block-is : (w : List ℕ) (k : ℕ) → blockAt (imaFormat c rate a) w k ≡ blockOfBytes a w k
+  unfolding blockAt blockOfBytes imaFormat
   block-is w k = refl
 
-  fine-is : (b : List ℕ) → blockValid (approvalFormat c rate a) b ≡ imaHeadersValid c b
-  unfolding blockValid approvalFormat
+  fine-is : (b : List ℕ) → blockValid (imaFormat c rate a) b ≡ imaHeadersValid c b
+  unfolding blockValid imaFormat
   fine-is b = refl
 
-  sound-is : (n : ℕ) (b : List ℕ) → blockFrames (approvalFormat c rate a) n b ≡ imaFrames c n b
-  unfolding blockFrames channelSound imaFrames approvalFormat
+  sound-is : (n : ℕ) (b : List ℕ) → blockFrames (imaFormat c rate a) n b ≡ imaFrames c n b
+  unfolding blockFrames channelSound imaFrames imaFormat
   sound-is n b = refl
 
 module _ (s : List ℤ) (c rate a : ℕ) (v : Codable c a) where
@@ -70,7 +71,7 @@ module _ (s : List ℤ) (c rate a : ℕ) (v : Codable c a) where
   bytes = encodedBytes c a s
 
   abbrev format : Format
-  format = approvalFormat c rate a
+  format = imaFormat c rate a
 
   counted : {k : ℕ} → k < blocksFor c a (length s) → k < blockCount format bytes
   unfolding blockCount
@@ -97,31 +98,31 @@ module _ (s : List ℤ) (c rate a : ℕ) (v : Codable c a) where
     -- frame f of a channel of the whole sound is what is heard of it
     frame-heard : Sounding format (record { 0 = length s / c }) bytes → (ch f : ℕ) → ch < c → f < length s / c
         → getD (wholeSound format (length s / c) bytes) (c * f + ch) (pos 0) ≡ heardAt c a bytes ch f .last
-    unfolding approvalFormat blockSound
+    unfolding imaFormat blockSound
     frame-heard z ch f l h =
         let p : ℕ = imaSamples c a in
         let k : ℕ = f / p in
         let j : ℕ = f % p in
-        let n : samplesOf c a ≡ p = samples-per v in
+        let n : imaStored c a ≡ p = stored-per v in
         let u : f / p * p + f % p ≡ f = div-add-mod' f p in
-        let e : k * samplesOf c a + j ≡ f = ap (λ (m : ℕ). k * m + j) n ∙ u in
+        let e : k * imaStored c a + j ≡ f = ap (λ (m : ℕ). k * m + j) n ∙ u in
         ap (λ (m : ℕ). getD (wholeSound format (length s / c) bytes) (c * m + ch) (pos 0)) (sym e)
         ∙ frame-of-whole z k j ch (counted (block-among c a (length s) f h)) (omega (arith, mod-lt f (per-some c a))) l
         (omega arith)
         ∙ ap (λ (xs : List ℤ). getD xs (c * j + ch) (pos 0))
-        (sound-is c rate a (samplesOf c a) (blockAt format bytes k)
-        ∙ ap (imaFrames c (samplesOf c a)) (block-is c rate a bytes k)
+        (sound-is c rate a (imaStored c a) (blockAt format bytes k)
+        ∙ ap (imaFrames c (imaStored c a)) (block-is c rate a bytes k)
         ∙ ap (λ (m : ℕ). imaFrames c m (blockOfBytes a bytes k)) n)
         ∙ q .sounded ch f l h
 
 -- ---- the file
 pub approved : Approved
-unfolding Approved approvalFormat Quality decoding fileSound frameOf soundIn
+unfolding Approved imaFormat Quality decoding fileSound frameOf soundIn
 approved s c rate a room most w m file z e form count held enough =
     let t : Settled (length s) c a room = encoded-says s c a room w e in
     let bytes : List ℕ = encodedBytes c a s in
     let q : Heard s c a bytes (w .left .0) (w .right .0) = quality s c a room w z e in
-    let kept : Sounding (approvalFormat c rate a) (record { 0 = length s / c }) bytes =
+    let kept : Sounding (imaFormat c rate a) (record { 0 = length s / c }) bytes =
     rw (sym form, sym count) (content-kept file (sym held)) in
     let size : length s / c * c ≡ length s = omega (arith, div-add-mod' (length s) c, t .whole) in
     let same : (ch f : ℕ) → ch < c → f < length s / c
@@ -138,7 +139,7 @@ approved s c rate a room most w m file z e form count held enough =
       frames =
           ap (λ (x : Content). wholeAnswer x most) held
           ∙ (λ i. decodedBy (wholeVerdict (form i) (count i .0) bytes most) (count i .0))
-          ∙ sym (whole-valid (approvalFormat c rate a) (length s / c) bytes most (omega arith) {valid = true}
+          ∙ sym (whole-valid (imaFormat c rate a) (length s / c) bytes most (omega arith) {valid = true}
           (sym (headers-valid s c rate a (t .valid) q)) refl);
       long =
           ap (λ (x : Content). length (contentSound x)) held ∙ (λ i. length (wholeSound (form i) (count i .0) bytes))

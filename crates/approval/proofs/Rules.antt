@@ -14,42 +14,33 @@ use Rattle.lists.specs.Among.{distinct}
 use Rattle.lists.specs.Every.{every, allBelow}
 use Rattle.units.specs.declared.BytePlace.{BytePlace}
 use Rattle.units.specs.declared.Frames.{Frames}
-use Rattle.formats.specs.Format.{shared, blocked, imaRule, formatRule}
+use Rattle.formats.specs.Format.{imaSamples, shared, blocked, imaRule, formatRule, codable, imaStored, imaFormat}
 use Rattle.formats.specs.Frames.{wholeBlocks, blocksIn, countFits, framesRule}
 use Rattle.formats.proofs.Counts.{count-empty, count-is, frames-counted}
+use Rattle.formats.proofs.Making.{Codable, codable-says, stored-none, stored-per}
 use Rattle.lists.proofs.Laws.{by-eqb}
 use Rattle.tables.specs.Tables.{held}
 use Rattle.tables.specs.Cues.{namesIn, placesIn, cuesRule}
 use Rattle.tables.specs.Plays.{allPlayable, playsRule}
-use Rattle.ima_block.specs.Block.{imaSamples}
-use Rattle.encode.specs.Encoding.{codable, blocksFor, encodedBytes}
-use Rattle.encode.proofs.Settling.{Codable, codable-says, codable-long}
+use Rattle.encode.specs.Encoding.{blocksFor, encodedBytes}
 use Rattle.encode.proofs.Answers.{length-encoded}
 use Rattle.encode.proofs.Blocks.{per-some}
 use Rattle.encode.proofs.Frames.{blocks-enough}
 use Rattle.encode.proofs.Heard.{length-bytes-of}
-use Rattle.approval.specs.Approval.{samplesOf, approvalFormat, approvalRecord}
+use Rattle.approval.specs.Approval.{approvalRecord}
 use Rattle.approval.specs.Demands.{RulesHold, RuleBroken}
-use Rattle.approval.proofs.Laws.{samples-none, samples-are}
 
 module _ {c a : ℕ} (w : Codable c a) where
-  pub codable-is : codable c a ≡ true
-  codable-is = sym (codable-long c a (w .some) (w .two) (w .whole) (w .least)) ∙ le-leb a 4096 (w .most)
-
-  pub samples-per : samplesOf c a ≡ imaSamples c a
-  unfolding imaSamples
-  samples-per = sym (samples-are c a refl codable-is)
-
   -- ---- 9
-  format-kept : (rate : ℕ) → 1 ≤ rate → rate ≤ 192000 → formatRule (approvalFormat c rate a) ≡ true
-  unfolding formatRule shared imaRule blocked approvalFormat imaSamples
+  format-kept : (rate : ℕ) → 1 ≤ rate → rate ≤ 192000 → formatRule (imaFormat c rate a) ≡ true
+  unfolding formatRule shared imaRule blocked imaFormat
   format-kept rate h g =
       let some = w .some in
       let two = w .two in
       let whole = w .whole in
       let least = w .least in
       let most = w .most in
-      let per : samplesOf c a ≡ (a - 4 * c) * 2 / c + 1 = samples-per in
+      let per : imaStored c a ≡ imaSamples c a = stored-per w in
       simp tests
 
   -- ---- 10 and 11, for a sound s
@@ -66,15 +57,15 @@ module _ {c a : ℕ} (w : Codable c a) where
     some-align : 1 ≤ a
     some-align = omega (arith, w .some, w .least)
 
-    whole-kept : (rate : ℕ) → wholeBlocks (approvalFormat c rate a) size ≡ true
-    unfolding wholeBlocks approvalFormat
+    whole-kept : (rate : ℕ) → wholeBlocks (imaFormat c rate a) size ≡ true
+    unfolding wholeBlocks imaFormat
     whole-kept rate =
         let h = some-align in
         let e : length (encodedBytes c a s) % a ≡ 0 = ap (λ (n : ℕ). n % a) sound-long ∙ mul-mod-left blocks a in
         simp tests
 
-    pub blocks-are : (rate : ℕ) → blocks ≡ blocksIn (approvalFormat c rate a) size
-    unfolding blocksIn approvalFormat
+    pub blocks-are : (rate : ℕ) → blocks ≡ blocksIn (imaFormat c rate a) size
+    unfolding blocksIn imaFormat
     blocks-are rate = sym (ap (λ (n : ℕ). n / a) sound-long ∙ mul-div-cancel blocks some-align)
 
     count-fits : true ≡ countFits blocks (imaSamples c a) (length s / c)
@@ -88,12 +79,12 @@ module _ {c a : ℕ} (w : Codable c a) where
         sym (eq-eqb f 0 n) ∙ count-empty blocks p f z)
         (λ z. sym (eq-eqb blocks blocks refl) ∙ count-is blocks p f z (per-some c a))
 
-    count-kept : (rate : ℕ) → framesRule (approvalFormat c rate a) size (record { 0 = length s / c }) ≡ true
-    unfolding approvalFormat
+    count-kept : (rate : ℕ) → framesRule (imaFormat c rate a) size (record { 0 = length s / c }) ≡ true
+    unfolding imaFormat
     count-kept rate =
-        sym (frames-counted (approvalFormat c rate a) size (blocks-are rate) (record { 0 = length s / c })
+        sym (frames-counted (imaFormat c rate a) size (blocks-are rate) (record { 0 = length s / c })
         (λ t. omega arith)
-        (count-fits ∙ ap (λ (k : ℕ). countFits blocks k (length s / c)) (sym samples-per)))
+        (count-fits ∙ ap (λ (k : ℕ). countFits blocks k (length s / c)) (sym (stored-per w))))
 
 -- ---- 12 and 13: the tables are empty
 module _ (c rate a : ℕ) (frames : Frames) where
@@ -125,7 +116,7 @@ and-none true = refl
 and-none false = refl
 
 pub rule-broken : RuleBroken
-unfolding RuleBroken formatRule imaRule approvalRecord approvalFormat
+unfolding RuleBroken formatRule imaRule approvalRecord imaFormat imaSamples
 rule-broken s c rate a e =
-    let n : samplesOf c a ≡ (a - 4 * c) * 2 / c + 1 → ⊥ = λ t. omega (arith, samples-none c a (sym e) refl) in
+    let n : imaStored c a ≡ imaSamples c a → ⊥ = λ t. omega (arith, stored-none c a (sym e) refl) in
     simp (ne-eqb, and-none)

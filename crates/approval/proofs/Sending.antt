@@ -23,11 +23,11 @@ use Rattle.rules.specs.Rules.{Writable}
 use Rattle.rules.specs.Written.{recordKept, RecordFits}
 use Rattle.writer.specs.File.{fileOf}
 use Rattle.writer.proofs.Sizes.{file-size, fact-size, cues-none, plays-none}
-use Rattle.ima_block.specs.Block.{imaSamples}
+use Rattle.formats.specs.Format.{imaSamples, imaFormat}
 use Rattle.encode.specs.Encoding.{blocksFor, encodedBytes}
-use Rattle.encode.proofs.Settling.{Codable}
+use Rattle.formats.proofs.Making.{Codable}
 use Rattle.encode.proofs.Heard.{by-channels}
-use Rattle.approval.specs.Approval.{approvalFormat, approvalRecord}
+use Rattle.approval.specs.Approval.{approvalRecord}
 use Rattle.approval.specs.Demands.{recordFor}
 use Rattle.approval.proofs.Rules.{sound-long}
 
@@ -83,7 +83,7 @@ module _ (s : List ℤ) (c rate a : ℕ) (w : Codable c a) where
 
   -- 12 bytes, `fmt ` of 20, `fact` of 4, and the sound, with eight before each
   file-long : length (fileOf (recordFor s c rate a) bytes) ≡ 60 + (length bytes + length bytes % 2)
-  unfolding approvalRecord approvalFormat needsFact
+  unfolding approvalRecord imaFormat needsFact
   file-long =
       let m = recordFor s c rate a in
       let n : _≡_ {A = ℕ} 17 1 → ⊥ = λ e. omega arith in

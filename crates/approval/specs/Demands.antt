@@ -7,23 +7,22 @@ use mathlib.Core.List.{List, [], _∷_}
 use lib.IntN.{ℤ, pos, natAbs, _-ℤ_}
 use lib.ListN.{length}
 use Rattle.units.specs.declared.BytePlace.{BytePlace}
-use Rattle.formats.specs.Format.{formatRule}
+use Rattle.formats.specs.Format.{imaSamples, codable, imaFormat, formatRule}
 use Rattle.rules.specs.declared.Record.{Record}
 use Rattle.rules.specs.Rules.{Writable}
 use Rattle.reader.specs.Content.{holds, contentOf, soundIn}
 use Rattle.ima_code.specs.Code.{stepAt}
 use Rattle.ima_code.specs.Quality.{Sixteen, Between, atMost}
-use Rattle.ima_block.specs.Block.{imaSamples}
 use Rattle.encode.specs.declared.Coded.{Coded}
 use Rattle.encode.specs.declared.Encoded.the-variants.{Blocks}
-use Rattle.encode.specs.Encoding.{encodedBytes, codable}
+use Rattle.encode.specs.Encoding.{encodedBytes}
 use Rattle.encode.specs.Answer.{codedOf, encoding}
 use Rattle.encode.specs.Demands.{frameOf, heardAt, chasedFrames, Heard}
 use Rattle.decode.specs.declared.Decoded.the-variants.{Frames}
 use Rattle.decode.specs.Decoding.{decoding, fileSound}
 use Rattle.writer.specs.declared.Written.the-variants.{Bytes}
 use Rattle.writer.specs.File.{fileOf, writing}
-use Rattle.approval.specs.Approval.{approvalFormat, approvalRecord}
+use Rattle.approval.specs.Approval.{approvalRecord}
 
 -- the record of the approval copy of a sound s
 abbrev pub recordFor : List ℤ → ℕ → ℕ → ℕ → Record
@@ -81,7 +80,7 @@ unfoldable pub Approved : Type 0
 Approved =
     (s : List ℤ) (c rate a room most : ℕ) (told : Coded) (m : Record) (file : List ℕ) → Sixteen s
     → encoding s c a room ≡ Blocks told
-    → m .format ≡ approvalFormat c rate a → m .frames ≡ record { 0 = length s / c }
+    → m .format ≡ imaFormat c rate a → m .frames ≡ record { 0 = length s / c }
     → contentOf file ≡ holds m (encodedBytes c a s)
     → length s ≤ most → Copy s c a told file most
 

@@ -18,7 +18,8 @@ use Rattle.units.proofs.Checks.{all-met}
 use Rattle.encode.specs.declared.Coded.{Coded}
 use Rattle.encode.specs.Encoding.{blocksFor, blockBytes, encodedBytes, chasedCount, encodeChecks, encodeVerdict}
 use Rattle.encode.specs.Answer.{codedOf, encodedBy, encoding}
-use Rattle.encode.proofs.Settling.{Codable, codable-says, product-fits}
+use Rattle.formats.proofs.Making.{Codable, codable-says}
+use Rattle.encode.proofs.Settling.{product-fits}
 use Rattle.encode.proofs.Loops.{length-mono, length-stereo}
 
 -- ---- what the verdict says where it is accepted

@@ -14,13 +14,13 @@ use Rattle.lists.specs.Turns.{values, joined}
 use Rattle.lists.proofs.Turns.{joined-next}
 use Rattle.ima_code.specs.Machine.{chasedOf}
 use Rattle.ima_code.proofs.Machine.{length-chased}
-use Rattle.ima_block.specs.Block.{imaSamples}
+use Rattle.formats.specs.Format.{imaSamples}
 use Rattle.ima_coder.specs.declared.Channel.{Channel}
 use Rattle.ima_coder.specs.Part.{closingIndex, chasedPart, countOf, channelAfter, openedWith, channelAfterBlock}
 use Rattle.ima_coder.proofs.Taken.{length-taken}
 use Rattle.ima_coder.proofs.Runs.{count-append}
 use Rattle.encode.specs.Encoding.{blockOf, openIndex, chasedBlock, blocksFor, chasedIn}
-use Rattle.encode.proofs.Settling.{Codable}
+use Rattle.formats.proofs.Making.{Codable}
 
 -- ---- samples per block
 pub per-mono : {a : ℕ} → Codable 1 a → imaSamples 1 a ≡ 8 * (a / 4 - 1) + 1

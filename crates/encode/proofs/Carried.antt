@@ -12,7 +12,7 @@ use Rattle.samples.proofs.Signed.{by-ltb}
 use Rattle.ima_code.specs.declared.ImaState.{ImaState}
 use Rattle.ima_code.specs.Code.{tracked}
 use Rattle.ima_code.specs.Machine.{after, trackedAll}
-use Rattle.ima_block.specs.Block.{imaSamples}
+use Rattle.formats.specs.Format.{imaSamples}
 use Rattle.ima_coder.specs.Part.{closingIndex}
 use Rattle.encode.specs.Encoding.{blockOf, openIndex, encodedBytes}
 use Rattle.encode.specs.Demands.{heardAt, trackedPart, trackedAt, Tracked, Carried}

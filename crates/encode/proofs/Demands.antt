@@ -18,7 +18,8 @@ use Rattle.ima_code.specs.declared.ImaState.{ImaState}
 use Rattle.ima_code.specs.Code.{isChased}
 use Rattle.ima_code.specs.Quality.{Sixteen, Faithful, within, atMost}
 use Rattle.ima_code.proofs.Machine.{length-tracked, sixteen-first, sixteen-rest, faithful-at, chased-at}
-use Rattle.ima_block.specs.Block.{imaSamples, channelPart, imaOpened, imaHeard, imaSound, statesIn, imaFrames, imaHeadersValid}
+use Rattle.formats.specs.Format.{imaSamples}
+use Rattle.ima_block.specs.Block.{channelPart, imaOpened, imaHeard, imaSound, statesIn, imaFrames, imaHeadersValid}
 use Rattle.ima_coder.specs.Part.{chasedPart, countOf}
 use Rattle.units.specs.declared.Verdict.{Verdict}
 use Rattle.units.specs.declared.Verdict.the-variants.{Accepted}
@@ -31,7 +32,7 @@ use Rattle.encode.specs.declared.Encoded.the-variants.{Blocks, Refused}
 use Rattle.encode.specs.Encoding.{blockOf, openIndex, channelBytes, chasedBlock, blocksFor, encodedBytes, chasedIn, chasedCount, encodeChecks, encodeVerdict}
 use Rattle.encode.specs.Answer.{codedOf, encodedBy, encoding, encodedNumber}
 use Rattle.encode.specs.Demands.{frameOf, blockOfBytes, heardAt, chasedAt, chasedFrames, Quality, trackedPart, trackedAt, Tracked, EncodeNumbered}
-use Rattle.encode.proofs.Settling.{Codable}
+use Rattle.formats.proofs.Making.{Codable}
 use Rattle.encode.proofs.Answers.{Settled, settled-says}
 use Rattle.encode.proofs.Blocks.{per-some, length-block, length-part}
 use Rattle.encode.proofs.Heard.{index-back, part-heard, per-is, part-back, block-back}

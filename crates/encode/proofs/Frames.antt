@@ -11,7 +11,7 @@ use Rattle.lists.specs.Turns.{values, joined}
 use Rattle.ima_code.specs.Quality.{Sixteen, within, atMost}
 use Rattle.ima_code.proofs.Machine.{sixteen-none, sixteen-more, sixteen-first, sixteen-rest, after-in-range}
 use Rattle.ima_code.proofs.Climb.{eleven-at-most}
-use Rattle.ima_block.specs.Block.{imaSamples}
+use Rattle.formats.specs.Format.{imaSamples}
 use Rattle.ima_coder.specs.Part.{samplesFrom, closingIndex, chasedPart}
 use Rattle.encode.specs.Encoding.{blockOf, openIndex, chasedBlock, blocksFor}
 use Rattle.encode.specs.Demands.{frameOf}

@@ -20,11 +20,12 @@ use Rattle.ima_code.specs.Machine.{codesOf}
 use Rattle.ima_code.specs.Quality.{Sixteen}
 use Rattle.ima_code.proofs.Coding.{code-below}
 use Rattle.ima_code.proofs.Machine.{run-tracks, sixteen-first}
-use Rattle.ima_block.specs.Block.{imaSamples, channelPart, imaOpened, lowFirst, statesIn}
+use Rattle.formats.specs.Format.{imaSamples}
+use Rattle.ima_block.specs.Block.{channelPart, imaOpened, lowFirst, statesIn}
 use Rattle.ima_coder.specs.Part.{packed, blockHead, codedPart}
 use Rattle.encode.specs.Encoding.{blockOf, openIndex, channelBytes, blockBytes, blocksFor, encodedBytes}
 use Rattle.encode.specs.Demands.{blockOfBytes, trackedPart}
-use Rattle.encode.proofs.Settling.{Codable}
+use Rattle.formats.proofs.Making.{Codable}
 use Rattle.encode.proofs.Blocks.{per-mono, per-stereo, length-block}
 use Rattle.encode.proofs.Loops.{length-coded, length-mono, length-stereo}
 

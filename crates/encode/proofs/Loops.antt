@@ -13,14 +13,14 @@ use Rattle.little.proofs.Filling.{Filled, filled-none, filled-piece, filled-all
 use Rattle.lists.specs.Turns.{values, joined, inTurn}
 use Rattle.lists.proofs.Turns.{joined-next, turn-one, turn-long}
 use Rattle.ima_code.specs.Machine.{codesOf}
-use Rattle.ima_block.specs.Block.{imaSamples}
+use Rattle.formats.specs.Format.{imaSamples}
 use Rattle.ima_coder.specs.declared.Channel.{Channel}
 use Rattle.ima_coder.specs.declared.Channels.{Channels}
 use Rattle.ima_coder.specs.Part.{samplesFrom, packed, blockHead, codedPart, channelAfterBlock}
 use Rattle.ima_coder.proofs.Heads.{length-head}
 use Rattle.ima_coder.proofs.Runs.{length-bytes}
 use Rattle.encode.specs.Encoding.{blockOf, openIndex, channelBytes, blockBytes, blocksFor, encodedBytes, chasedCount}
-use Rattle.encode.proofs.Settling.{Codable}
+use Rattle.formats.proofs.Making.{Codable}
 use Rattle.encode.proofs.Blocks.{per-mono, per-stereo, next-times, begun, length-block, Sofar, sofar-begins, sofar-next, sofar-ends}
 
 -- ---- the bytes of one channel

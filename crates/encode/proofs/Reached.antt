@@ -8,9 +8,10 @@ use Rattle.ima_code.specs.Code.{stepAt, hasBit, differenceSize, signedBy, diffe
 use Rattle.lists.specs.States.{through}
 use Rattle.ima_code.specs.Machine.{codesOf, after}
 use Rattle.ima_code.specs.Quality.{within, atMost}
-use Rattle.ima_block.specs.Block.{imaSamples, channelPart, imaOpened, lowFirst, statesIn}
+use Rattle.formats.specs.Format.{imaSamples, codable}
+use Rattle.ima_block.specs.Block.{channelPart, imaOpened, lowFirst, statesIn}
 use Rattle.ima_coder.specs.Part.{samplesFrom, packed, blockHead, codedPart, closingIndex}
-use Rattle.encode.specs.Encoding.{blockOf, openIndex, channelBytes, blockBytes, blocksFor, encodedBytes, codable, encodeVerdict}
+use Rattle.encode.specs.Encoding.{blockOf, openIndex, channelBytes, blockBytes, blocksFor, encodedBytes, encodeVerdict}
 use Rattle.encode.specs.Demands.{frameOf, blockOfBytes, heardAt, chasedAt, chasedFrames, Reached, PassedOver, Limit}
 
 pub reached : Reached

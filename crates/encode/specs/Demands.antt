@@ -11,12 +11,13 @@ use Rattle.ima_code.specs.declared.ImaState.{ImaState}
 use Rattle.ima_code.specs.Code.{stepAt, isChased}
 use Rattle.ima_code.specs.Machine.{trackedAll}
 use Rattle.ima_code.specs.Quality.{Sixteen, Faithful, atMost}
-use Rattle.ima_block.specs.Block.{imaSamples, channelPart, statesIn, imaFrames, imaHeadersValid}
+use Rattle.formats.specs.Format.{imaSamples, codable}
+use Rattle.ima_block.specs.Block.{channelPart, statesIn, imaFrames, imaHeadersValid}
 use Rattle.ima_coder.specs.Part.{countOf}
 use Rattle.units.specs.Refusals.{verdictNumber}
 use Rattle.encode.specs.declared.Coded.{Coded}
 use Rattle.encode.specs.declared.Encoded.the-variants.{Blocks}
-use Rattle.encode.specs.Encoding.{blockOf, openIndex, blocksFor, encodedBytes, codable, encodeVerdict}
+use Rattle.encode.specs.Encoding.{blockOf, openIndex, blocksFor, encodedBytes, encodeVerdict}
 use Rattle.encode.specs.Answer.{encoding, encodedNumber}
 
 -- frame f of channel ch of a sound s of c channels

@@ -1,6 +1,6 @@
 -- Encoding a whole sound: its blocks, its chased samples, and the answer. Assumes nothing.
 use Prim.Native.Nat.{ℕ, zero, suc, _+_, _-_, _*_, _/_, _%_}
-use mathlib.Core.Bool.{Bool, cond, _&&_}
+use mathlib.Core.Bool.{Bool, cond}
 use mathlib.Core.List.{List, [], _∷_}
 use lib.Dec.{leb, ltb, eqb}
 use lib.IntN.{ℤ}
@@ -9,7 +9,7 @@ use Rattle.lists.specs.Turns.{values, joined, inTurn}
 use Rattle.units.specs.declared.Refusal.the-variants.{LengthOutOfRange, FormatWrong, NotWholeFrames, OutputTooSmall}
 use Rattle.units.specs.declared.Verdict.{Verdict}
 use Rattle.units.specs.Checks.{Check, check, decided}
-use Rattle.ima_block.specs.Block.{imaSamples}
+use Rattle.formats.specs.Format.{imaSamples, codable}
 use Rattle.ima_coder.specs.Part.{samplesFrom, codedPart, closingIndex, chasedPart, countOf}
 
 -- ---- a sound s of c channels in blocks of align a
@@ -51,10 +51,6 @@ unfoldable pub chasedCount : ℕ → ℕ → List ℤ → ℕ → ℕ
 chasedCount c a s ch = cond (ltb ch c) (countOf (take (length s / c) (chasedIn c a s ch))) 0
 
 -- ---- the checks
-
--- 1 or 2 channels; align a multiple of 4 x channels, from 8 x channels to 4,096
-unfoldable pub codable : ℕ → ℕ → Bool
-codable c a = leb 1 c && leb c 2 && eqb (a % (4 * c)) 0 && leb (8 * c) a && leb a 4096
 
 -- 1 for more than 536,870,912 samples, 9 for channels or align, 10 for part of a frame, 14
 abbrev pub encodeChecks : ℕ → ℕ → ℕ → ℕ → List Check

@@ -4,7 +4,7 @@ ghost use Prim.Native.Nat.{_*_, _%_, _≤_};
 ghost use lib.ListN.{length};
 ghost use Rattle.little.specs.Writing.{front, holding};
 ghost use Rattle.units.specs.declared.Verdict.the-variants.{Accepted};
-ghost use Rattle.encode.specs.Encoding.{codable, blocksFor, encodeVerdict, encodedBytes, chasedCount};
+ghost use Rattle.encode.specs.Encoding.{blocksFor, encodeVerdict, encodedBytes, chasedCount};
 ghost use Rattle.encode.specs.Answer.{codedOf, encoding, encodedVerdict};
 use ima_code::ImaState;
 use ima_code::STEPS;
@@ -85,32 +85,13 @@ fn stereo_blocks(sound: &[i16], align: usize, n: usize, out: &mut [u8]) -> Chann
     channels
 }
 
-// Whether IMA has blocks of so many channels and this align.
-pub fn is_codable(channels: usize, align: usize) -> bool
-    ensures answer { λ r. ⌜ r ≡ codable channels align ⌝ }
-{
-    if channels < 1 {
-        return false;
-    }
-    if 2 < channels {
-        return false;
-    }
-    if align % (4 * channels) != 0 {
-        return false;
-    }
-    if align < 8 * channels {
-        return false;
-    }
-    align <= 4096
-}
-
 // How many blocks so many samples fill or begin.
 fn blocks_for(channels: usize, align: usize, samples: usize) -> usize
     requires { ⌜ (1 ≤ channels) × (4 * channels ≤ align) × (align ≤ 4096) × (samples ≤ 536870912) ⌝ }
     ensures answer { λ r. ⌜ r ≡ blocksFor channels align samples ⌝ }
     ensures bound { λ r. ⌜ r ≤ 536870912 ⌝ }
 {
-    let per = (align - 4 * channels) * 2 / channels + 1;
+    let per = formats::ima_samples(channels, align);
     (samples / channels + per - 1) / per
 }
 
@@ -121,7 +102,7 @@ fn settled(samples: usize, channels: usize, align: usize, room: usize) -> Verdic
     if 536870912 < samples {
         return Verdict::Refused(Refusal::LengthOutOfRange);
     }
-    let valid = is_codable(channels, align);
+    let valid = formats::is_codable(channels, align);
     if !valid {
         return Verdict::Refused(Refusal::FormatWrong);
     }

@@ -7,6 +7,7 @@ use lib.IntN.{ℤ, pos, negsuc}
 use lib.ListN.{take, drop, replicate}
 use Rattle.units.specs.Refusals.{verdictNumber}
 use Rattle.formats.specs.declared.Format.{Format}
+use Rattle.formats.specs.Format.{msSamples, plainFormat, imaFormat}
 use Rattle.ima_code.specs.declared.ImaState.{ImaState}
 use Rattle.ima_code.specs.Code.{codeFor, tracked, isChased}
 use Rattle.encode.specs.Encoding.{encodedBytes, chasedCount}
@@ -30,21 +31,19 @@ coded x =
 unfoldable pub written : List ℤ → List ℤ
 written s = map pos (encodedBytes 1 12 s) ++ (pos (chasedCount 1 12 s 0) ∷ [])
 
--- a mono format
-unfoldable pub mono : ℕ → ℕ → ℕ → ℕ → Format
-mono tag bits align samples = record { tag = tag; channels = 1; rate = 8000; bits = bits; align = align; samples = samples }
-
 -- the number of decoding sound data that are an IMA block of 8 bytes, which has 9 samples, whose header holds an index
 unfoldable pub headed : ℕ → List ℤ
-headed i = pos (verdictNumber (wholeVerdict (mono 17 4 8 9) 9 (0 ∷ 0 ∷ i ∷ 0 ∷ 0 ∷ 0 ∷ 0 ∷ 0 ∷ []) 9)) ∷ []
+headed i = pos (verdictNumber (wholeVerdict (imaFormat 1 8000 8) 9 (0 ∷ 0 ∷ i ∷ 0 ∷ 0 ∷ 0 ∷ 0 ∷ 0 ∷ []) 9)) ∷ []
 
 -- the sound of data that are a Microsoft block of 8 bytes, which has 4 samples
 unfoldable pub microsoft : List ℕ → List ℤ
-microsoft block = wholeSound (mono 2 4 8 4) 4 block
+microsoft block =
+    let format : Format = record { tag = 2; channels = 1; rate = 8000; bits = 4; align = 8; samples = msSamples 1 8 } in
+    wholeSound format 4 block
 
 -- the sound of 8-bit PCM, n frames
 unfoldable pub eights : ℕ → List ℕ → List ℤ
-eights n bytes = wholeSound (mono 1 8 1 1) n bytes
+eights n bytes = wholeSound (plainFormat 1 8000 8) n bytes
 
 -- ---- the examples
 

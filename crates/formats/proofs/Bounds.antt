@@ -8,7 +8,7 @@ use Rattle.units.specs.Refusals.{fileLimit}
 use Rattle.units.specs.declared.BytePlace.{BytePlace}
 use Rattle.units.specs.declared.Frames.{Frames}
 use Rattle.formats.specs.declared.Format.{Format}
-use Rattle.formats.specs.Format.{formatRule}
+use Rattle.formats.specs.Format.{imaSamples, msSamples, formatRule}
 use Rattle.formats.specs.Frames.{blocksIn, framesRule}
 use Rattle.formats.specs.Bytes.{FormatFits}
 use Rattle.lists.proofs.Laws.{by-eqb}
@@ -25,6 +25,7 @@ module _ (f : Format) (e : formatRule f ≡ true) where
 
   -- a sample has half a byte at least
   pub taken-each : f .samples ≤ 2 * f .align
+  unfolding imaSamples msSamples
   taken-each =
       by-format f e (f .samples ≤ 2 * f .align)
       (λ t p.

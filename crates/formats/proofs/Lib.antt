@@ -10,3 +10,4 @@ pub mod Taken
 pub mod Written
 pub mod Bytes
 pub mod Whole
+pub mod Making

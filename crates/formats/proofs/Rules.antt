@@ -1,8 +1,8 @@
 -- The rule on what a `fmt ` says, in the words of the code. Assumes nothing.
 use mathlib.Core.Path.{_≡_, sym, subst, _∙_}
 use mathlib.Core.Bool.{Bool, true, false, _&&_, _||_}
-use Prim.Native.Nat.{ℕ, _+_, _-_, _*_, _/_, _%_, _≤_, _<_}
-use native.Mathlib.Nat.{mul-le-mul-right, div-le-self}
+use Prim.Native.Nat.{ℕ, _*_, _/_, _%_, _≤_, _<_}
+use native.Mathlib.Nat.{mul-le-mul-right}
 use native.Mathlib.Omega.{arith}
 use lib.Dec.{T, leb, eqb, leb→le}
 use mir.Syntax.{w16, w32}
@@ -10,7 +10,7 @@ use mir.Val.{Fits}
 use mir.Facts.{and-yes}
 use borrow.Author.Tests.{not-true, not-false}
 use Rattle.formats.specs.declared.Format.{Format}
-use Rattle.formats.specs.Format.{shared, pcmRule, blocked, imaRule, microsoftRule, formatRule}
+use Rattle.formats.specs.Format.{imaSamples, msSamples, shared, pcmRule, blocked, imaRule, microsoftRule, formatRule}
 use Rattle.little.proofs.Tests.{tests}
 use Rattle.formats.proofs.Forms.{product-fits}
 
@@ -97,22 +97,20 @@ module _ (f : Format) {r : Bool} (e : r ≡ blocked f) where
         let m : k * f .channels ≤ 8 * f .channels = mul-le-mul-right (f .channels) (leb→le k 8 t) in
         omega (arith, within .0)
 
-    pub blocked-fits : (m n k : ℕ) → T (leb k 4096) → Fits w32 ((f .align - m) * 2 / n + k)
-    blocked-fits m n k t =
-        record { fits = omega (arith, within .1, div-le-self ((f .align - m) * 2) n, leb→le k 4096 t) }
+    pub blocked-most : f .align ≤ 4096
+    blocked-most = within .1
 
     pub ima-uneven : (f .align % (4 * f .channels) ≡ 0 → ⊥) → false ≡ imaRule f
     unfolding imaRule
     ima-uneven a = simp (tests, ← e, h)
 
-    pub ima-is : f .align % (4 * f .channels) ≡ 0
-        → eqb (f .samples) ((f .align - 4 * f .channels) * 2 / f .channels + 1) ≡ imaRule f
+    pub ima-is : {n : ℕ} → f .align % (4 * f .channels) ≡ 0 → n ≡ imaSamples (f .channels) (f .align) → eqb (f .samples) n ≡ imaRule f
     unfolding imaRule
-    ima-is a = simp (tests, ← e, h)
+    ima-is a g = simp (tests, ← e, h, g)
 
-    pub microsoft-is : eqb (f .samples) ((f .align - 7 * f .channels) * 2 / f .channels + 2) ≡ microsoftRule f
+    pub microsoft-is : {n : ℕ} → n ≡ msSamples (f .channels) (f .align) → eqb (f .samples) n ≡ microsoftRule f
     unfolding microsoftRule
-    microsoft-is = simp (← e, h)
+    microsoft-is g = simp (← e, h, g)
 
 -- by the tag
 module _ (f : Format) {r : Bool} (e : r ≡ shared f) where
@@ -148,6 +146,6 @@ module _ (f : Format) {r : Bool} (e : r ≡ shared f) where
 
 pub ruleset plain = (not-true, not-false, frame-fits, shared-none, shared-many, shared-still, shared-is, bits-eight, bits-sixteen, pcm-bits, pcm-align, pcm-is)
 
-pub ruleset blocking = (not-true, not-false, blocked-bits, blocked-small, blocked-is, blocked-room, blocked-fits, ima-unblocked, ima-uneven, ima-is, microsoft-unblocked, microsoft-is)
+pub ruleset blocking = (not-true, not-false, blocked-bits, blocked-small, blocked-is, blocked-room, blocked-most, ima-unblocked, ima-uneven, ima-is, microsoft-unblocked, microsoft-is)
 
 pub ruleset ruling = (not-true, not-false, rule-unshared, rule-channels, rule-pcm, rule-ima, rule-other, rule-microsoft)

@@ -12,7 +12,7 @@ use Rattle.lists.proofs.Laws.{by-eqb, and-both}
 use Rattle.units.specs.declared.BytePlace.{BytePlace}
 use Rattle.units.specs.declared.Frames.{Frames}
 use Rattle.formats.specs.declared.Format.{Format}
-use Rattle.formats.specs.Format.{byTag, shared, pcmRule, blocked, imaRule, microsoftRule, formatRule}
+use Rattle.formats.specs.Format.{byTag, imaSamples, msSamples, shared, pcmRule, blocked, imaRule, microsoftRule, formatRule}
 use Rattle.formats.specs.Frames.{wholeBlocks, blocksIn, needsFact, countFits, framesRule}
 
 or-second : (a b : Bool) → (a || b) ≡ true → a ≡ false → b ≡ true
@@ -33,12 +33,12 @@ pub record Blocked (f : Format) : Type 0 where
 pub record Ima (f : Format) : Type 0 where
   pub sized : Blocked f
   pub whole : f .align % (4 * f .channels) ≡ 0
-  pub samples : f .samples ≡ (f .align - 4 * f .channels) * 2 / f .channels + 1
+  pub samples : f .samples ≡ imaSamples (f .channels) (f .align)
 
 pub record Microsoft (f : Format) : Type 0 where
   pub tag : f .tag ≡ 2
   pub sized : Blocked f
-  pub samples : f .samples ≡ (f .align - 7 * f .channels) * 2 / f .channels + 2
+  pub samples : f .samples ≡ msSamples (f .channels) (f .align)
 
 pcm-says : (f : Format) → pcmRule f ≡ true → Pcm f
 unfolding pcmRule
@@ -68,7 +68,7 @@ ima-says : (f : Format) → imaRule f ≡ true → Ima f
 unfolding imaRule
 ima-says f e =
     let a : ℕ = f .align % (4 * f .channels) in
-    let n : ℕ = (f .align - 4 * f .channels) * 2 / f .channels + 1 in
+    let n : ℕ = imaSamples (f .channels) (f .align) in
     let p = and-both (blocked f && eqb a 0) (eqb (f .samples) n) e in
     let q = and-both (blocked f) (eqb a 0) (p .0) in
     record { sized = blocked-says f (q .0); whole = eqb-true a 0 (q .1); samples = eqb-true (f .samples) n (p .1) }
@@ -76,7 +76,7 @@ ima-says f e =
 microsoft-says : (f : Format) → f .tag ≡ 2 → microsoftRule f ≡ true → Microsoft f
 unfolding microsoftRule
 microsoft-says f t e =
-    let n : ℕ = (f .align - 7 * f .channels) * 2 / f .channels + 2 in
+    let n : ℕ = msSamples (f .channels) (f .align) in
     let p = and-both (blocked f) (eqb (f .samples) n) e in
     record { tag = t; sized = blocked-says f (p .0); samples = eqb-true (f .samples) n (p .1) }
 
@@ -162,6 +162,7 @@ module _ (f : Format) (e : formatRule f ≡ true) where
       (λ t p. omega (arith, p .sized .least, taken-some)) (λ t p. omega (arith, p .sized .least, taken-some))
 
   pub taken-samples : 1 ≤ f .samples
+  unfolding imaSamples msSamples
   taken-samples =
       by-format (1 ≤ f .samples)
       (λ t p. omega (arith, p .samples)) (λ t p. omega (arith, p .samples)) (λ t p. omega (arith, p .samples))

@@ -68,6 +68,16 @@ unfoldable pub formatForm : List ℕ → Bool
 formatForm s =
     leb 16 (length s) && byTag (numberAt 2 s 0) (average s) (extended 20 2 s) (extended 50 32 s && pairsForm s) false
 
+-- ---- samples per block, of c channels in blocks of align a
+
+-- IMA: (align - 4 x channels) x 2 / channels + 1
+unfoldable pub imaSamples : ℕ → ℕ → ℕ
+imaSamples c a = (a - 4 * c) * 2 / c + 1
+
+-- Microsoft: (align - 7 x channels) x 2 / channels + 2
+unfoldable pub msSamples : ℕ → ℕ → ℕ
+msSamples c a = (a - 7 * c) * 2 / c + 2
+
 -- ---- the rule on what it says
 
 -- 1 or 2 channels, rate 1 to 192,000
@@ -82,15 +92,31 @@ pcmRule f = (eqb (f .bits) 8 || eqb (f .bits) 16) && eqb (f .align) (f .channels
 unfoldable pub blocked : Format → Bool
 blocked f = eqb (f .bits) 4 && leb (8 * f .channels) (f .align) && leb (f .align) 4096
 
--- align a multiple of 4 x channels; samples per block = (align - 4 x channels) x 2 / channels + 1
+-- align a multiple of 4 x channels; samples per block by the formula
 unfoldable pub imaRule : Format → Bool
-imaRule f =
-    blocked f && eqb (f .align % (4 * f .channels)) 0
-    && eqb (f .samples) ((f .align - 4 * f .channels) * 2 / f .channels + 1)
+imaRule f = blocked f && eqb (f .align % (4 * f .channels)) 0 && eqb (f .samples) (imaSamples (f .channels) (f .align))
 
--- samples per block = (align - 7 x channels) x 2 / channels + 2
+-- samples per block by the formula
 unfoldable pub microsoftRule : Format → Bool
-microsoftRule f = blocked f && eqb (f .samples) ((f .align - 7 * f .channels) * 2 / f .channels + 2)
+microsoftRule f = blocked f && eqb (f .samples) (msSamples (f .channels) (f .align))
 
 unfoldable pub formatRule : Format → Bool
 formatRule f = shared f && byTag (f .tag) (pcmRule f) (imaRule f) (microsoftRule f) false
+
+-- ---- formats by what they are made of
+
+-- PCM: a frame has channels x bits / 8 bytes
+unfoldable pub plainFormat : ℕ → ℕ → ℕ → Format
+plainFormat c rate bits = record { tag = 1; channels = c; rate = rate; bits = bits; align = c * bits / 8; samples = 1 }
+
+-- whether IMA has blocks of c channels and align a: 1 or 2 channels; align a multiple of 4 x channels, from 8 x channels to 4,096
+unfoldable pub codable : ℕ → ℕ → Bool
+codable c a = leb 1 c && leb c 2 && eqb (a % (4 * c)) 0 && leb (8 * c) a && leb a 4096
+
+-- samples per block by the formula; 0, which no format has, where there are no such blocks
+unfoldable pub imaStored : ℕ → ℕ → ℕ
+imaStored c a = cond (codable c a) (imaSamples c a) 0
+
+-- IMA in blocks of align a
+unfoldable pub imaFormat : ℕ → ℕ → ℕ → Format
+imaFormat c rate a = record { tag = 17; channels = c; rate = rate; bits = 4; align = a; samples = imaStored c a }

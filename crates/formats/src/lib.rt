@@ -15,7 +15,7 @@ ghost use lib.ListN.{length, getD};
 ghost use Rattle.little.specs.Numbers.{bytesOf};
 ghost use Rattle.little.specs.Writing.{Put};
 ghost use Rattle.samples.specs.Sound.{sampleBytes};
-ghost use Rattle.formats.specs.Format.{formatOf, samplesField, extended, pairAt, pairsForm, average, formatForm};
+ghost use Rattle.formats.specs.Format.{formatOf, samplesField, extended, pairAt, pairsForm, average, formatForm, imaSamples, msSamples, codable, imaStored, plainFormat, imaFormat};
 ghost use Rattle.formats.specs.Bytes.{averageOf, sharedBytes, extensionBytes, pairsBytes, coefficientBytes, formatBytes, factBytes};
 ghost use Rattle.formats.specs.Format.{pairs, shared, pcmRule, blocked, imaRule, microsoftRule, formatRule};
 ghost use Rattle.formats.specs.Frames.{wholeBlocks, framesOf, factForm, needsFact, blocksIn, countFits, framesRule};
@@ -209,6 +209,23 @@ fn blocked_rule(format: Format) -> bool
     align <= 4096
 }
 
+// The samples of an IMA block in each channel: one for the header, and one for each code.
+pub fn ima_samples(channels: usize, align: usize) -> usize
+    requires { ⌜ (1 ≤ channels) × (4 * channels ≤ align) × (align ≤ 4096) ⌝ }
+    ensures answer { λ r. ⌜ r ≡ imaSamples channels align ⌝ }
+    ensures bound { λ r. ⌜ r ≤ 8193 ⌝ }
+{
+    (align - 4 * channels) * 2 / channels + 1
+}
+
+// The samples of a Microsoft block in each channel: two for the header, and one for each nibble.
+fn ms_samples(channels: usize, align: usize) -> usize
+    requires { ⌜ (1 ≤ channels) × (7 * channels ≤ align) × (align ≤ 4096) ⌝ }
+    ensures answer { λ r. ⌜ r ≡ msSamples channels align ⌝ }
+{
+    (align - 7 * channels) * 2 / channels + 2
+}
+
 // Whether IMA blocks hold whole words, and the samples that fill them.
 fn ima_rule(format: Format) -> bool
     requires { ⌜ 1 ≤ format .channels ⌝ }
@@ -218,12 +235,12 @@ fn ima_rule(format: Format) -> bool
     if !blocked {
         return false;
     }
-    let align = format.align as u32;
-    let channels = format.channels as u32;
+    let align = format.align as usize;
+    let channels = format.channels as usize;
     if align % (4 * channels) != 0 {
         return false;
     }
-    format.samples as u32 == (align - 4 * channels) * 2 / channels + 1
+    format.samples as usize == ima_samples(channels, align)
 }
 
 // Whether Microsoft blocks hold the samples that fill them.
@@ -235,9 +252,9 @@ fn microsoft_rule(format: Format) -> bool
     if !blocked {
         return false;
     }
-    let align = format.align as u32;
-    let channels = format.channels as u32;
-    format.samples as u32 == (align - 7 * channels) * 2 / channels + 2
+    let align = format.align as usize;
+    let channels = format.channels as usize;
+    format.samples as usize == ms_samples(channels, align)
 }
 
 // Whether what a `fmt ` says is taken.
@@ -259,6 +276,67 @@ pub fn format_rule(format: Format) -> bool
         return false;
     }
     microsoft_rule(format)
+}
+
+// The format of PCM sound.
+pub fn plain(channels: u16, rate: u32, bits: u16) -> Format
+    requires { ⌜ (channels ≤ 2) × (bits ≤ 16) ⌝ }
+    ensures answer { λ r. ⌜ r ≡ plainFormat channels rate bits ⌝ }
+{
+    Format {
+        tag: PCM,
+        channels: channels,
+        rate: rate,
+        bits: bits,
+        align: channels * bits / 8,
+        samples: 1,
+    }
+}
+
+// Whether IMA has blocks of so many channels and this align.
+pub fn is_codable(channels: usize, align: usize) -> bool
+    ensures answer { λ r. ⌜ r ≡ codable channels align ⌝ }
+{
+    if channels < 1 {
+        return false;
+    }
+    if 2 < channels {
+        return false;
+    }
+    let word = 4 * channels;
+    if align % word != 0 {
+        return false;
+    }
+    if align < 8 * channels {
+        return false;
+    }
+    align <= 4096
+}
+
+// The samples of an IMA block in each channel; 0, where there are no blocks of so many channels and
+// this align.
+fn ima_stored(channels: u16, align: u16) -> u16
+    ensures answer { λ r. ⌜ r ≡ imaStored channels align ⌝ }
+{
+    let valid = is_codable(channels as usize, align as usize);
+    if !valid {
+        return 0;
+    }
+    ima_samples(channels as usize, align as usize) as u16
+}
+
+// The format of IMA sound in blocks of an align; no file has it where there are no such blocks.
+pub fn ima(channels: u16, rate: u32, align: u16) -> Format
+    ensures answer { λ r. ⌜ r ≡ imaFormat channels rate align ⌝ }
+{
+    Format {
+        tag: IMA,
+        channels: channels,
+        rate: rate,
+        bits: 4,
+        align: align,
+        samples: ima_stored(channels, align),
+    }
 }
 
 // How many whole blocks some bytes of sound are; none, where a block has no bytes.

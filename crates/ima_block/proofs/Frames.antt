@@ -9,7 +9,8 @@ use Rattle.lists.proofs.Turns.{picked-long}
 use Rattle.ima_code.specs.declared.ImaState.{ImaState}
 use Rattle.ima_code.specs.Code.{afterCode}
 use Rattle.ima_code.specs.Machine.{run}
-use Rattle.ima_block.specs.Block.{imaSamples, channelPart, imaOpened, lowFirst, imaHeard, imaSound, statesIn}
+use Rattle.formats.specs.Format.{imaSamples}
+use Rattle.ima_block.specs.Block.{channelPart, imaOpened, lowFirst, imaHeard, imaSound, statesIn}
 
 nibbles-long : (bytes : List ℕ) → length (lowFirst bytes) ≡ 2 * length bytes
 unfolding lowFirst

@@ -16,7 +16,8 @@ use Rattle.lists.proofs.Turns.{turn-room}
 use Rattle.samples.specs.Sound.{sampleAt}
 use Rattle.samples.proofs.Signed.{back}
 use Rattle.ima_code.specs.declared.ImaState.{ImaState}
-use Rattle.ima_block.specs.Block.{imaSamples, channelPart, imaHeadersValid, imaHeard, imaSound, statesIn, imaFrames}
+use Rattle.formats.specs.Format.{imaSamples}
+use Rattle.ima_block.specs.Block.{channelPart, imaHeadersValid, imaHeard, imaSound, statesIn, imaFrames}
 use Rattle.ima_block.proofs.Parts.{part-one, opened-one, opened-left, opened-right, index-one, index-left, index-right}
 
 -- ---- mono

@@ -1,5 +1,5 @@
 -- An IMA block: the part of each channel, the states that it leads through, and its sound. Assumes nothing.
-use Prim.Native.Nat.{ℕ, _+_, _-_, _*_, _/_, _%_}
+use Prim.Native.Nat.{ℕ, _*_, _/_, _%_}
 use mathlib.Core.Bool.{Bool}
 use mathlib.Core.List.{List, [], _∷_, map}
 use lib.Dec.{leb}
@@ -10,10 +10,6 @@ use Rattle.lists.specs.Turns.{values, inTurn, picked}
 use Rattle.samples.specs.Sound.{sampleAt}
 use Rattle.ima_code.specs.declared.ImaState.{ImaState}
 use Rattle.ima_code.specs.Machine.{run}
-
--- samples per block = (align - 4 x channels) x 2 / channels + 1
-unfoldable pub imaSamples : ℕ → ℕ → ℕ
-imaSamples c align = (align - 4 * c) * 2 / c + 1
 
 -- what a block of c channels has of one channel: four bytes of each channel stand in turn
 unfoldable pub channelPart : ℕ → List ℕ → ℕ → List ℕ

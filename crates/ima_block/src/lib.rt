@@ -11,10 +11,13 @@ ghost use lib.ListN.{length, drop, getD};
 ghost use Rattle.little.specs.Writing.{Put};
 ghost use Rattle.lists.specs.Turns.{inTurn};
 ghost use Rattle.samples.specs.Sound.{sampleAt};
-ghost use Rattle.ima_code.specs.Code.{steps, heldIndices};
-ghost use Rattle.ima_block.specs.Block.{imaSamples, channelPart, imaHeadersValid, imaHeard, imaFrames};
+ghost use Rattle.formats.specs.Format.{imaSamples};
+ghost use Rattle.ima_code.specs.Code.{IsSteps, IsHeld};
+ghost use Rattle.ima_block.specs.Block.{channelPart, imaHeadersValid, imaHeard, imaFrames};
 use ima_code::HELD;
+use ima_code::Held;
 use ima_code::ImaState;
+use ima_code::Steps;
 use ima_code::decode_code;
 
 // Whether the header of every channel holds an index in range.
@@ -47,14 +50,14 @@ fn opened_at(block: &[u8], at: usize) -> ImaState
 fn mono_codes(
     block: &[u8],
     frames: usize,
-    table: &[u16; 89],
-    held: &[u8; 98],
+    table: &Steps,
+    held: &Held,
     from: ImaState,
     out: &mut [i16],
     at: usize,
 )
     requires { ⌜ (frames + 8 ≤ 2 * length (now block)) × (at + frames ≤ length (now out)) × (from .index < 89)
-        × (now table ≡ steps) × (now held ≡ heldIndices) ⌝ }
+        × IsSteps (now table) × IsHeld (now held) ⌝ }
     ensures buffer { λ _. ⌜ Put (now (out .entry)) at (inTurn 1 frames (imaHeard from (drop 4 (now (block .entry))) ∷ [])) (now (out .exit)) ⌝ }
 {
     let mut state = from;
@@ -85,15 +88,15 @@ fn mono_codes(
 fn stereo_codes(
     block: &[u8],
     frames: usize,
-    table: &[u16; 89],
-    held: &[u8; 98],
+    table: &Steps,
+    held: &Held,
     left: ImaState,
     right: ImaState,
     out: &mut [i16],
     at: usize,
 )
     requires { ⌜ (frames + 8 ≤ length (now block)) × (length (now block) % 8 ≡ 0) × (at + 2 * frames ≤ length (now out))
-        × (left .index < 89) × (right .index < 89) × (now table ≡ steps) × (now held ≡ heldIndices) ⌝ }
+        × (left .index < 89) × (right .index < 89) × IsSteps (now table) × IsHeld (now held) ⌝ }
     ensures buffer { λ _. ⌜ Put (now (out .entry)) at
         (inTurn 1 frames (imaHeard left (drop 4 (channelPart 2 (now (block .entry)) 0)) ∷ imaHeard right (drop 4 (channelPart 2 (now (block .entry)) 1)) ∷ []))
         (now (out .exit)) ⌝ }
@@ -137,9 +140,9 @@ fn stereo_codes(
 }
 
 // Puts the first frames of a mono block at a place.
-fn mono(block: &[u8], frames: usize, table: &[u16; 89], held: &[u8; 98], out: &mut [i16], at: usize)
+fn mono(block: &[u8], frames: usize, table: &Steps, held: &Held, out: &mut [i16], at: usize)
     requires { ⌜ (length (now block) % 4 ≡ 0) × (4 ≤ length (now block)) × (1 ≤ frames) × (frames ≤ imaSamples 1 (length (now block)))
-        × (imaHeadersValid 1 (now block) ≡ true) × (now table ≡ steps) × (now held ≡ heldIndices) × (at + frames ≤ length (now out)) ⌝ }
+        × (imaHeadersValid 1 (now block) ≡ true) × IsSteps (now table) × IsHeld (now held) × (at + frames ≤ length (now out)) ⌝ }
     ensures buffer { λ _. ⌜ Put (now (out .entry)) at (imaFrames 1 frames (now (block .entry))) (now (out .exit)) ⌝ }
 {
     let state = opened_at(block, 0);
@@ -149,16 +152,9 @@ fn mono(block: &[u8], frames: usize, table: &[u16; 89], held: &[u8; 98], out: &m
 }
 
 // Puts the first frames of a stereo block at a place.
-fn stereo(
-    block: &[u8],
-    frames: usize,
-    table: &[u16; 89],
-    held: &[u8; 98],
-    out: &mut [i16],
-    at: usize,
-)
+fn stereo(block: &[u8], frames: usize, table: &Steps, held: &Held, out: &mut [i16], at: usize)
     requires { ⌜ (length (now block) % 8 ≡ 0) × (8 ≤ length (now block)) × (1 ≤ frames) × (frames ≤ imaSamples 2 (length (now block)))
-        × (imaHeadersValid 2 (now block) ≡ true) × (now table ≡ steps) × (now held ≡ heldIndices) × (at + 2 * frames ≤ length (now out)) ⌝ }
+        × (imaHeadersValid 2 (now block) ≡ true) × IsSteps (now table) × IsHeld (now held) × (at + 2 * frames ≤ length (now out)) ⌝ }
     ensures buffer { λ _. ⌜ Put (now (out .entry)) at (imaFrames 2 frames (now (block .entry))) (now (out .exit)) ⌝ }
 {
     let left = opened_at(block, 0);
@@ -176,13 +172,13 @@ pub fn decode(
     block: &[u8],
     channels: usize,
     frames: usize,
-    table: &[u16; 89],
+    table: &Steps,
     out: &mut [i16],
     at: usize,
 )
     requires { ⌜ (1 ≤ channels) × (channels ≤ 2) × (length (now block) % (4 * channels) ≡ 0) × (4 * channels ≤ length (now block))
         × (1 ≤ frames) × (frames ≤ imaSamples channels (length (now block)))
-        × (imaHeadersValid channels (now block) ≡ true) × (now table ≡ steps) × (at + channels * frames ≤ length (now out)) ⌝ }
+        × (imaHeadersValid channels (now block) ≡ true) × IsSteps (now table) × (at + channels * frames ≤ length (now out)) ⌝ }
     ensures buffer { λ _. ⌜ Put (now (out .entry)) at (imaFrames channels frames (now (block .entry))) (now (out .exit)) ⌝ }
 {
     let held = HELD;

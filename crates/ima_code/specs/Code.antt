@@ -1,5 +1,6 @@
 -- One IMA code: its difference, the channel after it, and the code of a sample. Assumes nothing.
 use Prim.Native.Nat.{ℕ, zero, suc, _+_, _-_, _*_, _/_, _%_, min}
+use mathlib.Core.Path.{_≡_}
 use mathlib.Core.Bool.{Bool, cond}
 use mathlib.Core.List.{List, [], _∷_}
 use lib.Dec.{leb, eqb}
@@ -19,6 +20,10 @@ steps =
     ∷ 544 ∷ 598 ∷ 658 ∷ 724 ∷ 796 ∷ 876 ∷ 963 ∷ 1060 ∷ 1166 ∷ 1282 ∷ 1411 ∷ 1552 ∷ 1707 ∷ 1878 ∷ 2066 ∷ 2272 ∷ 2499
     ∷ 2749 ∷ 3024 ∷ 3327 ∷ 3660 ∷ 4026 ∷ 4428 ∷ 4871 ∷ 5358 ∷ 5894 ∷ 6484 ∷ 7132 ∷ 7845 ∷ 8630 ∷ 9493 ∷ 10442 ∷ 11487
     ∷ 12635 ∷ 13899 ∷ 15289 ∷ 16818 ∷ 18500 ∷ 20350 ∷ 22385 ∷ 24623 ∷ 27086 ∷ 29794 ∷ 32767 ∷ []
+
+-- what a table of the steps holds that code is lent
+abbrev pub IsSteps : List ℕ → Type 0
+IsSteps table = table ≡ steps
 
 unfoldable pub stepAt : ℕ → ℕ
 stepAt i = getD steps i 0
@@ -60,6 +65,10 @@ heldFrom i (suc n) = min (i - 1) 88 ∷ heldFrom (suc i) n
 -- so that an index and one more than its move lead to the index after it
 abbrev pub heldIndices : List ℕ
 heldIndices = heldFrom 0 98
+
+-- what a table of them holds
+abbrev pub IsHeld : List ℕ → Type 0
+IsHeld table = table ≡ heldIndices
 
 -- a channel after code k: the difference added to the last sample and held, and the index moved
 unfoldable pub afterCode : ImaState → ℕ → ImaState

@@ -5,7 +5,7 @@ ghost use Prim.Native.Nat.{_+_, _-_, _*_, _≤_, _<_};
 ghost use lib.Dec.{ltb, leb};
 ghost use lib.IntN.{pos, natAbs, _+ℤ_, _-ℤ_};
 ghost use Rattle.samples.specs.Sound.{hold};
-ghost use Rattle.ima_code.specs.Code.{steps, heldIndices, stepAt, differenceSize, signedBy, indexFrom, afterCode, bitsFor, codeFor, tracked, isChased};
+ghost use Rattle.ima_code.specs.Code.{IsSteps, IsHeld, stepAt, differenceSize, signedBy, indexFrom, afterCode, bitsFor, codeFor, tracked, isChased};
 
 // A channel between two codes: its last sample, and the index of its step.
 pub struct ImaState {
@@ -26,7 +26,10 @@ pub struct Bits {
     pub size: u32,
 }
 
-pub const STEPS: [u16; 89] = [
+// The steps by their index. A loop copies the table once, and lends it to what it calls.
+pub type Steps = [u16; 89];
+
+pub const STEPS: Steps = [
     7,
     8,
     9,
@@ -120,7 +123,9 @@ pub const STEPS: [u16; 89] = [
 
 // One less than each number up to 97, held within 0..88: an index and one more than its move lead to
 // the index after it.
-pub const HELD: [u8; 98] = [
+pub type Held = [u8; 98];
+
+pub const HELD: Held = [
     0,
     0,
     1,
@@ -302,8 +307,8 @@ fn moved(index: usize, low: u32) -> usize
 }
 
 // The same by a table, which decoding lends: the back end would make branches of the tests.
-fn moved_by(index: usize, low: u32, held: &[u8; 98]) -> usize
-    requires { ⌜ (index < 89) × (low < 8) × (now held ≡ heldIndices) ⌝ }
+fn moved_by(index: usize, low: u32, held: &Held) -> usize
+    requires { ⌜ (index < 89) × (low < 8) × IsHeld (now held) ⌝ }
     ensures answer { λ r. ⌜ r ≡ indexFrom index low ⌝ }
     ensures bound { λ r. ⌜ r < 89 ⌝ }
 {
@@ -356,8 +361,8 @@ fn moved_sample(sample: i16, down: bool, size: u32) -> i16
 }
 
 // A channel after a code. The tables are lent, so that a loop copies them once and for all.
-pub fn decode_code(state: ImaState, code: u32, table: &[u16; 89], held: &[u8; 98]) -> ImaState
-    requires { ⌜ (state .index < 89) × (now table ≡ steps) × (now held ≡ heldIndices) ⌝ }
+pub fn decode_code(state: ImaState, code: u32, table: &Steps, held: &Held) -> ImaState
+    requires { ⌜ (state .index < 89) × IsSteps (now table) × IsHeld (now held) ⌝ }
     ensures answer { λ r. ⌜ r ≡ afterCode state code ⌝ }
     ensures index_bound { λ r. ⌜ r .index < 89 ⌝ }
 {
@@ -481,8 +486,8 @@ fn code_difference(state: ImaState, down: bool, step: u32, magnitude: u32) -> Sa
 }
 
 // Codes a sample. The sign is branched on first: each branch then needs one bound of the 16 bits.
-pub fn encode_code(state: ImaState, sample: i16, table: &[u16; 89]) -> SampleCode
-    requires { ⌜ (state .index < 89) × (now table ≡ steps) ⌝ }
+pub fn encode_code(state: ImaState, sample: i16, table: &Steps) -> SampleCode
+    requires { ⌜ (state .index < 89) × IsSteps (now table) ⌝ }
     ensures coded { λ r. ⌜ (r .code ≡ codeFor state sample)
         × (r .code < 16)
         × (r .chased ≡ isChased state sample)

@@ -10,10 +10,11 @@ ghost use Prim.Native.Nat.{_+_, _-_, _*_, _/_, _≤_, _<_, min};
 ghost use lib.ListN.{length};
 ghost use Rattle.little.specs.Writing.{Put};
 ghost use Rattle.lists.specs.Turns.{inTurn};
-ghost use Rattle.ima_code.specs.Code.{steps, codeFor, tracked, isChased};
+ghost use Rattle.ima_code.specs.Code.{IsSteps, codeFor, tracked, isChased};
 ghost use Rattle.ima_code.specs.Machine.{codesOf};
 ghost use Rattle.ima_coder.specs.Part.{samplesFrom, packed, blockHead, codedPart, channelAfter, openedWith, channelAfterBlock, leftsFrom, rightsFrom, Ran, BothRan};
 use ima_code::ImaState;
+use ima_code::Steps;
 use ima_code::encode_code;
 
 // A channel while it is coded: its state, and how many of its samples were chased.
@@ -76,13 +77,13 @@ fn real_bytes(
     at: usize,
     stride: usize,
     n: usize,
-    table: &[u16; 89],
+    table: &Steps,
     from: Channel,
     out: &mut [u8],
     to: usize,
 ) -> Channel
     requires { ⌜ (at ≤ 4294967296) × (stride * (2 * n) ≤ length (now sound) - 1 + stride - at) × (1 ≤ stride) × (stride ≤ 2) × (n ≤ 4096) × (to + n ≤ length (now out))
-        × (from .state .index < 89) × (from .chased + 2 * n < 4294967296) × (now table ≡ steps) ⌝ }
+        × (from .state .index < 89) × (from .chased + 2 * n < 4294967296) × IsSteps (now table) ⌝ }
     ensures ran { λ r. ⌜ Ran from (2 * n)
         (channelAfter from (2 * n) (samplesFrom (now (sound .entry)) stride (length (now (sound .entry)) - 1) at (2 * n)))
         (packed (codesOf (from .state) (samplesFrom (now (sound .entry)) stride (length (now (sound .entry)) - 1) at (2 * n))))
@@ -108,8 +109,8 @@ fn real_bytes(
 }
 
 // Codes two samples, the second from the state after the first.
-fn two_samples(state: ImaState, first: i16, second: i16, table: &[u16; 89]) -> Two
-    requires { ⌜ (state .index < 89) × (now table ≡ steps) ⌝ }
+fn two_samples(state: ImaState, first: i16, second: i16, table: &Steps) -> Two
+    requires { ⌜ (state .index < 89) × IsSteps (now table) ⌝ }
     ensures coded { λ r. ⌜ (r .byte ≡ codeFor state first + 16 * codeFor (tracked state first) second)
         × (r .first ≡ isChased state first)
         × (r .second ≡ isChased (tracked state first) second)
@@ -136,13 +137,13 @@ fn filled_bytes(
     last: usize,
     left: usize,
     n: usize,
-    table: &[u16; 89],
+    table: &Steps,
     from: Channel,
     out: &mut [u8],
     to: usize,
 ) -> Channel
     requires { ⌜ (last < length (now sound)) × (at ≤ 4294967296) × (1 ≤ stride) × (stride ≤ 2) × (n ≤ 4096) × (to + n ≤ length (now out))
-        × (from .state .index < 89) × (from .chased + 2 * n < 4294967296) × (now table ≡ steps) ⌝ }
+        × (from .state .index < 89) × (from .chased + 2 * n < 4294967296) × IsSteps (now table) ⌝ }
     ensures ran { λ r. ⌜ Ran from (2 * n)
         (channelAfter from left (samplesFrom (now (sound .entry)) stride last at (2 * n)))
         (packed (codesOf (from .state) (samplesFrom (now (sound .entry)) stride last at (2 * n))))
@@ -176,13 +177,13 @@ fn channel_bytes(
     last: usize,
     left: usize,
     n: usize,
-    table: &[u16; 89],
+    table: &Steps,
     from: Channel,
     out: &mut [u8],
     to: usize,
 ) -> Channel
     requires { ⌜ (last < length (now sound)) × (stride * left ≤ last + stride - at) × (at ≤ 4294967296) × (1 ≤ stride) × (stride ≤ 2) × (n ≤ 4096)
-        × (to + n ≤ length (now out)) × (from .state .index < 89) × (from .chased + 2 * n < 4294967296) × (now table ≡ steps) ⌝ }
+        × (to + n ≤ length (now out)) × (from .state .index < 89) × (from .chased + 2 * n < 4294967296) × IsSteps (now table) ⌝ }
     ensures ran { λ r. ⌜ Ran from (2 * n)
         (channelAfter from left (samplesFrom (now (sound .entry)) stride last at (2 * n)))
         (packed (codesOf (from .state) (samplesFrom (now (sound .entry)) stride last at (2 * n))))
@@ -236,13 +237,13 @@ pub fn mono_block(
     sound: &[i16],
     frame: usize,
     groups: usize,
-    table: &[u16; 89],
+    table: &Steps,
     from: Channel,
     out: &mut [u8],
     to: usize,
 ) -> Channel
     requires { ⌜ (frame < length (now sound)) × (length (now sound) ≤ 536870912) × (groups ≤ 1023) × (to + 4 * groups + 4 ≤ length (now out))
-        × (from .state .index < 89) × (from .chased + 8 * groups < 4294967296) × (now table ≡ steps) ⌝ }
+        × (from .state .index < 89) × (from .chased + 8 * groups < 4294967296) × IsSteps (now table) ⌝ }
     ensures ran { λ r. ⌜ Ran from (8 * groups)
         (channelAfterBlock from (length (now (sound .entry)) - frame) (samplesFrom (now (sound .entry)) 1 (length (now (sound .entry)) - 1) frame (8 * groups + 1)))
         (codedPart (from .state .index) (samplesFrom (now (sound .entry)) 1 (length (now (sound .entry)) - 1) frame (8 * groups + 1)))
@@ -269,14 +270,14 @@ fn stereo_group(
     sound: &[i16],
     at: usize,
     left: usize,
-    table: &[u16; 89],
+    table: &Steps,
     from: Channels,
     out: &mut [u8],
     to: usize,
 ) -> Channels
     requires { ⌜ (2 ≤ length (now sound)) × (2 * left ≤ length (now sound) - at) × (at < 4294967296) × (to + 8 ≤ length (now out))
         × (from .left .state .index < 89) × (from .right .state .index < 89)
-        × (from .left .chased + 8 < 4294967296) × (from .right .chased + 8 < 4294967296) × (now table ≡ steps) ⌝ }
+        × (from .left .chased + 8 < 4294967296) × (from .right .chased + 8 < 4294967296) × IsSteps (now table) ⌝ }
     ensures ran { λ r. ⌜ BothRan from 8
         (channelAfter (from .left) left (leftsFrom (now (sound .entry)) at 8))
         (channelAfter (from .right) left (rightsFrom (now (sound .entry)) at 8))
@@ -307,14 +308,14 @@ fn stereo_groups(
     at: usize,
     left: usize,
     groups: usize,
-    table: &[u16; 89],
+    table: &Steps,
     from: Channels,
     out: &mut [u8],
     to: usize,
 ) -> Channels
     requires { ⌜ (2 ≤ length (now sound)) × (2 * left ≤ length (now sound) - at) × (at ≤ 1073741824) × (groups ≤ 511)
         × (to + 8 * groups ≤ length (now out)) × (from .left .state .index < 89) × (from .right .state .index < 89)
-        × (from .left .chased + 8 * groups < 4294967296) × (from .right .chased + 8 * groups < 4294967296) × (now table ≡ steps) ⌝ }
+        × (from .left .chased + 8 * groups < 4294967296) × (from .right .chased + 8 * groups < 4294967296) × IsSteps (now table) ⌝ }
     ensures ran { λ r. ⌜ BothRan from (8 * groups)
         (channelAfter (from .left) left (leftsFrom (now (sound .entry)) at (8 * groups)))
         (channelAfter (from .right) left (rightsFrom (now (sound .entry)) at (8 * groups)))
@@ -342,14 +343,14 @@ pub fn stereo_block(
     sound: &[i16],
     at: usize,
     groups: usize,
-    table: &[u16; 89],
+    table: &Steps,
     from: Channels,
     out: &mut [u8],
     to: usize,
 ) -> Channels
     requires { ⌜ (at + 2 ≤ length (now sound)) × (length (now sound) ≤ 536870912) × (groups ≤ 511) × (to + 8 * groups + 8 ≤ length (now out))
         × (from .left .state .index < 89) × (from .right .state .index < 89)
-        × (from .left .chased + 8 * groups < 4294967296) × (from .right .chased + 8 * groups < 4294967296) × (now table ≡ steps) ⌝ }
+        × (from .left .chased + 8 * groups < 4294967296) × (from .right .chased + 8 * groups < 4294967296) × IsSteps (now table) ⌝ }
     ensures ran { λ r. ⌜ BothRan from (8 * groups)
         (channelAfterBlock (from .left) ((length (now (sound .entry)) - at) / 2) (leftsFrom (now (sound .entry)) at (8 * groups + 1)))
         (channelAfterBlock (from .right) ((length (now (sound .entry)) - at) / 2) (rightsFrom (now (sound .entry)) at (8 * groups + 1)))

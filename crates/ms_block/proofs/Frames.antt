@@ -8,7 +8,8 @@ use Rattle.lists.specs.States.{through}
 use Rattle.lists.proofs.States.{through-long}
 use Rattle.ms_code.specs.declared.MsState.{MsState}
 use Rattle.ms_code.specs.Nibble.{afterNibble}
-use Rattle.ms_block.specs.Block.{msSamples, msOpened, channelNibbles, msHeard, msSound}
+use Rattle.formats.specs.Format.{msSamples}
+use Rattle.ms_block.specs.Block.{msOpened, channelNibbles, msHeard, msSound}
 use Rattle.ms_block.proofs.Places.{channel-long}
 
 heard-long : (t : MsState) (ks : List ℕ) → length (msHeard t ks) ≡ length ks

@@ -15,7 +15,8 @@ use Rattle.lists.specs.Turns.{values, joined, inTurn}
 use Rattle.lists.proofs.Turns.{turn-room}
 use Rattle.ms_code.specs.declared.MsState.{MsState}
 use Rattle.samples.proofs.Signed.{back}
-use Rattle.ms_block.specs.Block.{msSamples, msHeadersValid, msOpened, channelNibbles, msHeard, msSound, msFrames}
+use Rattle.formats.specs.Format.{msSamples}
+use Rattle.ms_block.specs.Block.{msHeadersValid, msOpened, channelNibbles, msHeard, msSound, msFrames}
 use Rattle.ms_block.proofs.Header.{predictor-one, predictor-left, predictor-right}
 
 two-same : (out : List ℤ) (at : ℕ) (x y : ℤ) → length (set (set out at x) (at + 1) y) ≡ length out

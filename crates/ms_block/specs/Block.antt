@@ -13,10 +13,6 @@ use Rattle.ms_code.specs.declared.MsState.{MsState}
 use Rattle.ms_code.specs.Nibble.{afterNibble}
 use Rattle.samples.specs.Sound.{sampleAt}
 
--- samples per block = (align - 7 x channels) x 2 / channels + 2
-unfoldable pub msSamples : ℕ → ℕ → ℕ
-msSamples c align = (align - 7 * c) * 2 / c + 2
-
 -- predictor byte per channel
 unfoldable pub predictorOf : List ℕ → ℕ → ℕ
 predictorOf b ch = getD b ch 0

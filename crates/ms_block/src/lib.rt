@@ -10,9 +10,11 @@ ghost use Prim.Native.Nat.{_+_, _*_, _≤_, _<_};
 ghost use lib.ListN.{length, getD};
 ghost use Rattle.little.specs.Writing.{Put};
 ghost use Rattle.lists.specs.Turns.{inTurn};
-ghost use Rattle.ms_code.specs.Nibble.{factors, Tame};
-ghost use Rattle.ms_block.specs.Block.{msSamples, msHeadersValid, msOpened, channelNibbles, msHeard, msFrames};
+ghost use Rattle.formats.specs.Format.{msSamples};
+ghost use Rattle.ms_code.specs.Nibble.{IsFactors, Tame};
+ghost use Rattle.ms_block.specs.Block.{msHeadersValid, msOpened, channelNibbles, msHeard, msFrames};
 use formats::PAIRS;
+use ms_code::Factors;
 use ms_code::MsState;
 use ms_code::decode_nibble;
 
@@ -52,13 +54,13 @@ fn opened_at(block: &[u8], channels: usize, channel: usize) -> MsState
 fn mono_nibbles(
     block: &[u8],
     frames: usize,
-    table: &[i32; 16],
+    table: &Factors,
     from: MsState,
     out: &mut [i16],
     at: usize,
 )
     requires { ⌜ (frames + 14 ≤ 2 * length (now block)) × (at + frames ≤ length (now out))
-        × Tame from × (now table ≡ factors) ⌝ }
+        × Tame from × IsFactors (now table) ⌝ }
     ensures buffer { λ _. ⌜ Put (now (out .entry)) at (inTurn 1 frames (msHeard from (channelNibbles 1 (now (block .entry)) 0) ∷ [])) (now (out .exit)) ⌝ }
 {
     let mut state = from;
@@ -89,14 +91,14 @@ fn mono_nibbles(
 fn stereo_nibbles(
     block: &[u8],
     frames: usize,
-    table: &[i32; 16],
+    table: &Factors,
     left: MsState,
     right: MsState,
     out: &mut [i16],
     at: usize,
 )
     requires { ⌜ (frames + 14 ≤ length (now block)) × (at + 2 * frames ≤ length (now out))
-        × Tame left × Tame right × (now table ≡ factors) ⌝ }
+        × Tame left × Tame right × IsFactors (now table) ⌝ }
     ensures buffer { λ _. ⌜ Put (now (out .entry)) at
         (inTurn 1 frames (msHeard left (channelNibbles 2 (now (block .entry)) 0) ∷ msHeard right (channelNibbles 2 (now (block .entry)) 1) ∷ []))
         (now (out .exit)) ⌝ }
@@ -121,9 +123,9 @@ fn stereo_nibbles(
 }
 
 // Puts the first frames of a mono block at a place.
-fn mono(block: &[u8], frames: usize, table: &[i32; 16], out: &mut [i16], at: usize)
+fn mono(block: &[u8], frames: usize, table: &Factors, out: &mut [i16], at: usize)
     requires { ⌜ (7 ≤ length (now block)) × (1 ≤ frames) × (frames ≤ msSamples 1 (length (now block)))
-        × (msHeadersValid 1 (now block) ≡ true) × (now table ≡ factors) × (at + frames ≤ length (now out)) ⌝ }
+        × (msHeadersValid 1 (now block) ≡ true) × IsFactors (now table) × (at + frames ≤ length (now out)) ⌝ }
     ensures buffer { λ _. ⌜ Put (now (out .entry)) at (msFrames 1 frames (now (block .entry))) (now (out .exit)) ⌝ }
 {
     let state = opened_at(block, 1, 0);
@@ -138,9 +140,9 @@ fn mono(block: &[u8], frames: usize, table: &[i32; 16], out: &mut [i16], at: usi
 }
 
 // Puts the first frames of a stereo block at a place.
-fn stereo(block: &[u8], frames: usize, table: &[i32; 16], out: &mut [i16], at: usize)
+fn stereo(block: &[u8], frames: usize, table: &Factors, out: &mut [i16], at: usize)
     requires { ⌜ (14 ≤ length (now block)) × (1 ≤ frames) × (frames ≤ msSamples 2 (length (now block)))
-        × (msHeadersValid 2 (now block) ≡ true) × (now table ≡ factors) × (at + 2 * frames ≤ length (now out)) ⌝ }
+        × (msHeadersValid 2 (now block) ≡ true) × IsFactors (now table) × (at + 2 * frames ≤ length (now out)) ⌝ }
     ensures buffer { λ _. ⌜ Put (now (out .entry)) at (msFrames 2 frames (now (block .entry))) (now (out .exit)) ⌝ }
 {
     let left = opened_at(block, 2, 0);
@@ -165,13 +167,13 @@ pub fn decode(
     block: &[u8],
     channels: usize,
     frames: usize,
-    table: &[i32; 16],
+    table: &Factors,
     out: &mut [i16],
     at: usize,
 )
     requires { ⌜ (1 ≤ channels) × (channels ≤ 2) × (7 * channels ≤ length (now block))
         × (1 ≤ frames) × (frames ≤ msSamples channels (length (now block)))
-        × (msHeadersValid channels (now block) ≡ true) × (now table ≡ factors) × (at + channels * frames ≤ length (now out)) ⌝ }
+        × (msHeadersValid channels (now block) ≡ true) × IsFactors (now table) × (at + channels * frames ≤ length (now out)) ⌝ }
     ensures buffer { λ _. ⌜ Put (now (out .entry)) at (msFrames channels frames (now (block .entry))) (now (out .exit)) ⌝ }
 {
     if channels == 1 {

@@ -1,5 +1,6 @@
 -- One Microsoft nibble: the prediction, and the channel after it. Assumes nothing.
 use Prim.Native.Nat.{ℕ, _≤_}
+use mathlib.Core.Path.{_≡_}
 use mathlib.Core.Bool.{cond}
 use mathlib.Core.List.{List, [], _∷_}
 use lib.Dec.{ltb}
@@ -14,6 +15,10 @@ abbrev pub factors : List ℤ
 factors =
     pos 230 ∷ pos 230 ∷ pos 230 ∷ pos 230 ∷ pos 307 ∷ pos 409 ∷ pos 512 ∷ pos 614
     ∷ pos 768 ∷ pos 614 ∷ pos 512 ∷ pos 409 ∷ pos 307 ∷ pos 230 ∷ pos 230 ∷ pos 230 ∷ []
+
+-- what a table of them holds that code is lent
+abbrev pub IsFactors : List ℤ → Type 0
+IsFactors table = table ≡ factors
 
 -- a nibble as a signed number of four bits
 unfoldable pub signedNibble : ℕ → ℤ

@@ -2,7 +2,7 @@
 ghost use mathlib.Core.Path.{_≡_};
 ghost use Prim.Native.Nat.{_≤_, _<_};
 ghost use lib.IntN.{natAbs};
-ghost use Rattle.ms_code.specs.Nibble.{factors, Tame, signedNibble, predicted, heldDelta, afterNibble};
+ghost use Rattle.ms_code.specs.Nibble.{IsFactors, Tame, signedNibble, predicted, heldDelta, afterNibble};
 
 // A channel between two nibbles: the pair of its predictor, its delta, and its last two samples.
 pub struct MsState {
@@ -13,8 +13,11 @@ pub struct MsState {
     pub older: i16,
 }
 
-// What each nibble multiplies the delta by, in parts of 256.
-pub const FACTORS: [i32; 16] = [
+// What each nibble multiplies the delta by, in parts of 256. A loop copies the table once, and lends it to
+// what it calls.
+pub type Factors = [i32; 16];
+
+pub const FACTORS: Factors = [
     230,
     230,
     230,
@@ -67,8 +70,8 @@ fn held_delta(value: i32) -> i32
 }
 
 // A channel after a nibble. The factors are lent, so that a loop copies them once and for all.
-pub fn decode_nibble(state: MsState, nibble: u32, table: &[i32; 16]) -> MsState
-    requires { ⌜ Tame state × (nibble < 16) × (now table ≡ factors) ⌝ }
+pub fn decode_nibble(state: MsState, nibble: u32, table: &Factors) -> MsState
+    requires { ⌜ Tame state × (nibble < 16) × IsFactors (now table) ⌝ }
     ensures answer { λ r. ⌜ r ≡ afterNibble state nibble ⌝ }
     ensures tame { λ r. ⌜ Tame r ⌝ }
 {

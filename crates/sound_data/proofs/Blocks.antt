@@ -14,7 +14,7 @@ use Rattle.little.proofs.Filling.{put-front}
 use Rattle.lists.specs.Turns.{values, inTurn}
 use Rattle.lists.proofs.Turns.{Long, values-long, values-alike, turn-long, turn-first}
 use Rattle.formats.specs.declared.Format.{Format}
-use Rattle.formats.specs.Format.{byTag, formatRule}
+use Rattle.formats.specs.Format.{byTag, imaSamples, msSamples, formatRule}
 use Rattle.formats.proofs.Taken.{taken-some, taken-two, taken-ima, taken-microsoft, taken-samples, by-format, wanted-tag}
 use Rattle.ima_block.specs.Block as ima
 use Rattle.ima_block.proofs.Frames as ima-frames
@@ -75,11 +75,10 @@ module _ (f : Format) (e : formatRule f ≡ true) (b : List ℕ) (l : length b �
       pub ima-words : length b % (4 * f .channels) ≡ 0
       ima-words = ap (λ (k : ℕ). k % (4 * f .channels)) l ∙ taken-ima f e n t .whole
 
-      ima-samples : f .samples ≡ ima.imaSamples (f .channels) (length b)
-      unfolding ima.imaSamples
-      ima-samples = taken-ima f e n t .samples ∙ ap (λ (k : ℕ). (k - 4 * f .channels) * 2 / f .channels + 1) (sym l)
+      ima-samples : f .samples ≡ imaSamples (f .channels) (length b)
+      ima-samples = taken-ima f e n t .samples ∙ ap (imaSamples (f .channels)) (sym l)
 
-      pub ima-within : {frames : ℕ} → frames ≤ f .samples → frames ≤ ima.imaSamples (f .channels) (length b)
+      pub ima-within : {frames : ℕ} → frames ≤ f .samples → frames ≤ imaSamples (f .channels) (length b)
       ima-within h = omega (arith, ima-samples)
 
       pub ima-tested : {r : Bool} → r ≡ ima.imaHeadersValid (f .channels) b → r ≡ blockValid f b
@@ -103,13 +102,11 @@ module _ (f : Format) (e : formatRule f ≡ true) (b : List ℕ) (l : length b �
       pub microsoft-predictors : f .channels ≤ length b
       microsoft-predictors = omega (arith, taken-microsoft f e n m .sized .least)
 
-      microsoft-samples : f .samples ≡ microsoft.msSamples (f .channels) (length b)
-      unfolding microsoft.msSamples
-      microsoft-samples =
-          taken-microsoft f e n m .samples ∙ ap (λ (k : ℕ). (k - 7 * f .channels) * 2 / f .channels + 2) (sym l)
+      microsoft-samples : f .samples ≡ msSamples (f .channels) (length b)
+      microsoft-samples = taken-microsoft f e n m .samples ∙ ap (msSamples (f .channels)) (sym l)
 
       pub microsoft-within : {frames : ℕ} → frames ≤ f .samples
-          → frames ≤ microsoft.msSamples (f .channels) (length b)
+          → frames ≤ msSamples (f .channels) (length b)
       microsoft-within h = omega (arith, microsoft-samples)
 
       pub microsoft-tested : {r : Bool} → r ≡ microsoft.msHeadersValid (f .channels) b → r ≡ blockValid f b

@@ -7,15 +7,17 @@ use formats::Format;
 use formats::IMA;
 use formats::PCM;
 use ima_code::STEPS;
+use ima_code::Steps;
 use ms_code::FACTORS;
+use ms_code::Factors;
 use units::Frames;
 ghost use mathlib.Core.Path.{_≡_};
 ghost use mathlib.Core.Bool.{true, false};
 ghost use Prim.Native.Nat.{_+_, _*_, _≤_, _<_, min};
 ghost use lib.ListN.{length};
 ghost use Rattle.little.specs.Writing.{Put, front};
-ghost use Rattle.ima_code.specs.Code.{steps};
-ghost use Rattle.ms_code.specs.Nibble.{factors};
+ghost use Rattle.ima_code.specs.Code.{IsSteps};
+ghost use Rattle.ms_code.specs.Nibble.{IsFactors};
 ghost use Rattle.formats.specs.Format.{formatRule};
 ghost use Rattle.formats.specs.Frames.{needsFact, Sounding};
 ghost use Rattle.sound_data.specs.Sound.{blockFrames, blockValid, blockCount, blockAt, wholeSound, dataValid};
@@ -28,10 +30,12 @@ pub fn block_count(format: Format, bytes: &[u8]) -> usize
     bytes.len() / format.align as usize
 }
 
-// A block of the data, counted from 0.
+// A block of the data, counted from 0: that very part of them.
 pub fn block_at(format: Format, bytes: &[u8], k: usize) -> &[u8]
     requires { ⌜ (formatRule format ≡ true) × (k < blockCount format (now bytes)) ⌝ }
     ensures part { λ r. ⌜ now r ≡ blockAt format (now (bytes .entry)) k ⌝ }
+    ensures lent { λ r. ⌜ r .ptr .0 ≡ bytes .entry .ptr .0 ⌝ }
+    ensures place { λ r. ⌜ r .ptr .1 ≡ bytes .entry .ptr .1 + k * format .align ⌝ }
     ensures long { λ r. ⌜ length (now r) ≡ format .align ⌝ }
 {
     let align = format.align as usize;
@@ -88,14 +92,14 @@ fn put_block(
     format: Format,
     frames: usize,
     block: &[u8],
-    sizes: &[u16; 89],
-    scales: &[i32; 16],
+    sizes: &Steps,
+    scales: &Factors,
     out: &mut [i16],
     at: usize,
 )
     requires { ⌜ (formatRule format ≡ true) × (needsFact format ≡ true) × (length (now block) ≡ format .align)
         × (blockValid format (now block) ≡ true) × (1 ≤ frames) × (frames ≤ format .samples)
-        × (now sizes ≡ steps) × (now scales ≡ factors)
+        × IsSteps (now sizes) × IsFactors (now scales)
         × (at + format .channels * frames ≤ length (now out)) ⌝ }
     ensures buffer { λ _. ⌜ Put (now (out .entry)) at (blockFrames format frames (now (block .entry))) (now (out .exit)) ⌝ }
 {

@@ -7,27 +7,25 @@
 use files::Input;
 use units::BytePlace;
 use wave::Decoded;
-use wave::Format;
 use wave::Frames;
 use wave::Record;
 use wave::Written;
+ghost use Prim.Native.Nat.{_≤_};
 
-// The bytes of a frame of 16-bit PCM.
-fn frame_size(channels: u16) -> u16 {
-    if channels == 2 { 4 } else { 2 }
+// The channels of a file that was read: it has 1 or 2.
+fn one_or_two(channels: u16) -> u16
+    ensures bound { λ r. ⌜ r ≤ 2 ⌝ }
+{
+    if channels == 2 {
+        return 2;
+    }
+    1
 }
 
 // The record of a file's sound as 16-bit PCM: places and lengths are frames, so they stay as they are.
 fn plain(made: Record) -> Record {
     let old = made.format;
-    let format = Format {
-        tag: formats::PCM,
-        channels: old.channels,
-        rate: old.rate,
-        bits: 16,
-        align: frame_size(old.channels),
-        samples: 1,
-    };
+    let format = formats::plain(one_or_two(old.channels), old.rate, 16);
     let frames = made.frames;
     let cues = made.cues;
     let playlist = made.playlist;

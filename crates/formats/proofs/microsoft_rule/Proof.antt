@@ -1,4 +1,4 @@
--- Blocks of a size that is taken have room for the headers, and their samples fit 32 bits.
+-- Blocks of a size that is taken have room for the headers; their samples are compared with the formula.
 use Rattle.formats.proofs.Rules.{blocking}
 use borrow.Author.Needs.{needs}
 use Rattle.formats.proofs.microsoft_rule.Statement.{statement}
@@ -7,6 +7,6 @@ use Rattle.formats.proofs.microsoft_rule.Tie as tie
 pub microsoft-rule-spec : {M : Type 1} → statement M
 microsoft-rule-spec =
     tie.close
-    (tie.spec (λ c κs. search needs) (λ c. search (needs, blocking)) (λ c. search needs) (λ c. search needs)
-    (λ c. search needs) (λ c. search needs) (λ c. search (needs, blocking)) (λ c. search needs) (λ c. search needs)
-    (λ c. search (needs, blocking)) (λ c. search (needs, blocking)))
+    (tie.spec (λ c κs. search (needs, blocking)) (λ c. search (needs, blocking)) (λ c. search (needs, blocking))
+    (λ c. search (needs, blocking)) (λ c. search (needs, blocking)) (λ c κs. search (needs, blocking))
+    (λ c. search (needs, blocking)))

@@ -8,4 +8,5 @@ pub block-at-spec : {M : Type 1} → statement M
 block-at-spec =
     tie.close
     (tie.spec (λ c. search needs) (λ c. search (needs, placing)) (λ c. search (needs, placing))
-    (λ c. search needs) (λ c. search needs) (λ c. search (needs, placing)) (λ c. search (needs, placing)))
+    (λ c. search needs) (λ c. search needs) (λ c. search (needs, placing))
+    (λ c. (search (needs, placing), search (needs, placing))))

@@ -1,8 +1,8 @@
 -- Each return is one law of the rule: the parts of the rule are asked one after the other.
 use borrow.Author.Needs.{needs}
-use Rattle.encode.proofs.Settling.{judging}
-use Rattle.encode.proofs.is_codable.Statement.{statement}
-use Rattle.encode.proofs.is_codable.Tie as tie
+use Rattle.formats.proofs.Making.{judging}
+use Rattle.formats.proofs.is_codable.Statement.{statement}
+use Rattle.formats.proofs.is_codable.Tie as tie
 
 pub is-codable-spec : {M : Type 1} → statement M
 is-codable-spec =
