@@ -1,3 +1,4 @@
 pub mod Checks
 pub mod Files
 pub mod Demands
+pub mod Promise

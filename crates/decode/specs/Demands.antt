@@ -58,20 +58,22 @@ PcmSound =
 -- ---- the number that decoding gives, in the order of checks and the numbers of document 01; 0 is decoded
 
 -- the reader's, 14, then 15 for any block
-unfoldable pub DecodeNumbered : Type 0
-DecodeNumbered =
-    (s : List ℕ) (room : ℕ)
-    → decodedNumber (decoding s room)
-    ≡ numberOr (reading s .verdict)
+abbrev pub decodeNumber : List ℕ → ℕ → ℕ
+decodeNumber s room =
+    numberOr (reading s .verdict)
     (cond (not (leb (fileFrames s * channelsOf s) room)) 14
     (cond (not (dataValid (fileFormat s) (soundIn s))) 15 0))
 
+unfoldable pub DecodeNumbered : Type 0
+DecodeNumbered = (s : List ℕ) (room : ℕ) → decodedNumber (decoding s room) ≡ decodeNumber s room
+
 -- the reader's, 20, 14, 15
-unfoldable pub BlockNumbered : Type 0
-BlockNumbered =
-    (s : List ℕ) (k room : ℕ)
-    → decodedNumber (blockDecoding s k room)
-    ≡ numberOr (reading s .verdict)
+abbrev pub blockNumber : List ℕ → ℕ → ℕ → ℕ
+blockNumber s k room =
+    numberOr (reading s .verdict)
     (cond (not (hasBlock (fileFormat s) (soundIn s) k)) 20
     (cond (not (leb (blockFramesOf s * channelsOf s) room)) 14
     (cond (not (blockValid (fileFormat s) (blockAt (fileFormat s) (soundIn s) k))) 15 0)))
+
+unfoldable pub BlockNumbered : Type 0
+BlockNumbered = (s : List ℕ) (k room : ℕ) → decodedNumber (blockDecoding s k room) ≡ blockNumber s k room

@@ -7,3 +7,4 @@ pub mod Heard
 pub mod Loops
 pub mod Settling
 pub mod Carried
+pub mod Promise

@@ -118,14 +118,15 @@ PassedOver =
     (atMost 11 (values chased 0 19) ≡ true) × (atMost 11 later ≡ false) × (atMost 12 later ≡ true)
 
 -- ---- the order of checks, in document 01's own numbers: 1, 9, 10, 14; 0 where the blocks are written
-unfoldable pub EncodeNumbered : Type 0
-EncodeNumbered =
-    (s : List ℤ) (c a room : ℕ)
-    → encodedNumber (encoding s c a room)
-    ≡ cond (not (leb (length s) 536870912)) 1
+abbrev pub encodeNumber : List ℤ → ℕ → ℕ → ℕ → ℕ
+encodeNumber s c a room =
+    cond (not (leb (length s) 536870912)) 1
     (cond (not (codable c a)) 9
     (cond (not (eqb (length s % c) 0)) 10
     (cond (not (leb (blocksFor c a (length s) * a) room)) 14 0)))
+
+unfoldable pub EncodeNumbered : Type 0
+EncodeNumbered = (s : List ℤ) (c a room : ℕ) → encodedNumber (encoding s c a room) ≡ encodeNumber s c a room
 
 -- 536,870,912 samples are taken, and get 14 where there is no room; one more is 1
 unfoldable pub Limit : Type 0

@@ -1,3 +1,4 @@
 pub mod Encoding
 pub mod Answer
 pub mod Demands
+pub mod Promise

@@ -3,3 +3,4 @@ pub mod Reading
 pub mod Comparing
 pub mod Tests
 pub mod Parting
+pub mod Promise

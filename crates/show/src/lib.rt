@@ -1,7 +1,9 @@
 // What the programs print on standard output: words, numbers and bytes. A program puts a line
 // together of these, one fact to a line.
 use libc::STDOUT_FILENO;
+ghost use mathlib.Core.Path.{_≡_};
 ghost use Prim.Native.Nat.{_<_};
+ghost use Rattle.show.specs.Mixing.{mixedWith, mixedFrom};
 
 // Words, as they stand.
 pub fn word(text: &[u8]) {
@@ -36,7 +38,9 @@ pub fn sample(value: i16) {
 }
 
 // A byte as a wider number.
-fn wide(byte: u8) -> u64 {
+fn wide(byte: u8) -> u64
+    ensures answer { λ r. ⌜ r ≡ byte ⌝ }
+{
     byte as u64
 }
 
@@ -64,13 +68,16 @@ pub fn bytes(values: &[u8]) {
 // prime.
 pub fn mixed(before: u64, value: u64) -> u64
     requires { ⌜ before < 1000003 ⌝ }
+    ensures answer { λ r. ⌜ r ≡ mixedWith before value ⌝ }
     ensures bound { λ r. ⌜ r < 1000003 ⌝ }
 {
     (before * 31 + value % 65536) % 1000003
 }
 
 // A number mixed of bytes.
-pub fn mixed_bytes(values: &[u8]) -> u64 {
+pub fn mixed_bytes(values: &[u8]) -> u64
+    ensures answer { λ r. ⌜ r ≡ mixedFrom 0 (now (values .entry)) ⌝ }
+{
     let mut mix: u64 = 0;
     let mut i = 0;
     while i < values.len() {

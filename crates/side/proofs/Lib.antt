@@ -14,3 +14,4 @@ pub mod Ready
 pub mod Sending
 pub mod Rows
 pub mod EmptySide
+pub mod Promise

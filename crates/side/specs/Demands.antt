@@ -217,19 +217,18 @@ EmptyMade =
     → IsEmptySide (fileOf (emptySide channels rate) []) channels rate
 
 -- and it is written: 9 but for 1 or 2 channels and a rate of 1 to 192,000, then 14 without room for its 44 bytes
+abbrev pub emptyNumber : ℕ → ℕ → ℕ → ℕ
+emptyNumber channels rate room =
+    cond (leb 1 channels && leb channels 2 && leb 1 rate && leb rate 192000) (cond (ltb room 44) 14 0) 9
+
 unfoldable pub EmptyNumbered : Type 0
 EmptyNumbered =
-    (channels rate room : ℕ)
-    → writtenNumber (writing (emptySide channels rate) [] room)
-    ≡ cond (leb 1 channels && leb channels 2 && leb 1 rate && leb rate 192000) (cond (ltb room 44) 14 0) 9
+    (channels rate room : ℕ) → writtenNumber (writing (emptySide channels rate) [] room) ≡ emptyNumber channels rate room
 
 -- ---- the number of an answer, in the order of checks and the numbers of document 01; 0 where the song is added
-
-unfoldable pub AddNumbered : Type 0
-AddNumbered =
-    (s t : List ℕ) (number : Donation) (limit : Frames) (room : ℕ)
-    → writtenNumber (adding s t number limit room)
-    ≡ numberOr (reading t .verdict)
+abbrev pub addNumber : List ℕ → List ℕ → Donation → Frames → ℕ → ℕ
+addNumber s t number limit room =
+    numberOr (reading t .verdict)
     (cond (not (isSideFile s)) 19
     (cond (not (suits (fileFormat s) (fileFormat t))) 9
     (cond (eqb (fileFrames t) 0) 16
@@ -238,3 +237,8 @@ AddNumbered =
     (cond (ltb fileLimit (length (newFile s t number))) 1
     (cond (ltb room (length (newFile s t number))) 14
     0)))))))
+
+unfoldable pub AddNumbered : Type 0
+AddNumbered =
+    (s t : List ℕ) (number : Donation) (limit : Frames) (room : ℕ)
+    → writtenNumber (adding s t number limit room) ≡ addNumber s t number limit room

@@ -1,3 +1,4 @@
 pub mod Side
 pub mod Adding
 pub mod Demands
+pub mod Promise

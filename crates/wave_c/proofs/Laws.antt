@@ -20,10 +20,10 @@ use Rattle.units.specs.Refusals.{numberOf, verdictNumber}
 use Rattle.units.specs.Checks.{decided, andThen}
 use Rattle.lists.proofs.Laws.{and-both}
 use Rattle.riff.specs.declared.Spot.{Spot}
-use Rattle.riff.specs.Walk.{partOf}
+use Rattle.riff.specs.Walk.{partOf, startOf}
 use Rattle.rules.specs.declared.Record.{Record}
 use Rattle.rules.specs.declared.Reading.{Reading}
-use Rattle.reader.specs.Content.{reading, soundSpot, soundIn}
+use Rattle.reader.specs.Content.{reading, soundSpot, soundIn, soundStart}
 use Rattle.reader.proofs.Demands.{sound-placed}
 use Rattle.writer.specs.declared.Written.{Written}
 use Rattle.writer.specs.declared.Written.the-variants as written
@@ -38,7 +38,7 @@ use Rattle.encode.specs.Answer as encodes
 use Rattle.words.specs.Words.{recordWords, fieldsFit, recordFrom}
 use Rattle.wave_c.specs.declared.Answer.{Answer}
 use Rattle.wave_c.specs.declared.CodedAnswer.{CodedAnswer}
-use Rattle.wave_c.specs.Interface.{refusedBy, done, answerBy, ofWritten, ofDecoded, ofEncoded, enough, readVerdict, startOf, wordsValid, wordsWriting}
+use Rattle.wave_c.specs.Interface.{refusedBy, done, answerBy, ofWritten, ofDecoded, ofEncoded, enough, readVerdict, wordsValid, wordsWriting}
 
 -- ---- answers as numbers
 module _ (r : Refusal) {k : ℕ} (e : k ≡ numberOf r) where
@@ -169,7 +169,8 @@ module _ (n : ℕ) (s : List ℕ) (room : ℕ) {x : Reading} (e : x ≡ reading 
           g ∙ (λ i. answerBy (taken i) (p i))
 
       pub start-kept : (d : List ℕ) {z : List ℕ} → z ≡ holding (enough n room) (startOf spot ∷ []) d
-          → z ≡ holding (readVerdict n s room) (startOf (soundSpot s) ∷ []) d
+          → z ≡ holding (readVerdict n s room) (soundStart s ∷ []) d
+      unfolding soundStart
       start-kept d g = g ∙ (λ i. holding (taken i) (startOf (h i) ∷ []) d)
 
 pub ruleset reading-first = (number-refused, answer-refused, kept-refused, number-taken, record-kept, sound-told, start-kept)

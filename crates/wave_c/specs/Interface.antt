@@ -10,8 +10,6 @@ use Rattle.units.specs.declared.Verdict.{Verdict}
 use Rattle.units.specs.declared.Verdict.the-variants as verdict
 use Rattle.units.specs.Refusals.{numberOf}
 use Rattle.units.specs.Checks.{check, decided, andThen}
-use Rattle.riff.specs.declared.Spot.{Spot}
-use Rattle.riff.specs.declared.Spot.the-variants.{At, Missing}
 use Rattle.reader.specs.Content.{reading}
 use Rattle.writer.specs.declared.Written.{Written}
 use Rattle.writer.specs.declared.Written.the-variants as written
@@ -57,11 +55,6 @@ enough n room = decided (check (leb n room) OutputTooSmall ∷ [])
 -- the reader's refusals 1 to 13, then 14
 unfoldable pub readVerdict : ℕ → List ℕ → ℕ → Verdict
 readVerdict n s room = andThen (reading s .verdict) (enough n room)
-
--- where a chunk's data start
-abbrev pub startOf : Spot → ℕ
-startOf (At p) = p .start .0
-startOf Missing = 0
 
 -- ---- writing
 

@@ -13,8 +13,8 @@ ghost use mathlib.Core.Path.{_≡_};
 ghost use mathlib.Core.List.{[], _∷_};
 ghost use lib.ListN.{length};
 ghost use Rattle.units.specs.Refusals.{numberOf, verdictNumber};
-ghost use Rattle.reader.specs.Content.{reading, soundSpot, soundIn};
-ghost use Rattle.riff.specs.Walk.{partOf};
+ghost use Rattle.reader.specs.Content.{reading, soundIn, soundStart};
+ghost use Rattle.riff.specs.Walk.{partOf, startOf};
 ghost use Rattle.little.specs.Writing.{holding};
 ghost use Rattle.writer.specs.File.{fileOf, writing, writtenVerdict};
 ghost use Rattle.encode.specs.Encoding.{encodedBytes};
@@ -22,7 +22,7 @@ ghost use Rattle.encode.specs.Answer.{encoding, encodedVerdict};
 ghost use Rattle.decode.specs.Decoding.{decoding, blockDecoding, fileSound, fileBlock, decodedVerdict};
 ghost use Rattle.side.specs.Adding.{adding, newFile, emptySide};
 ghost use Rattle.words.specs.Words.{recordWords, recordFrom};
-ghost use Rattle.wave_c.specs.Interface.{refusedBy, done, ofWritten, ofDecoded, ofEncoded, answerBy, enough, readVerdict, startOf, wordsValid, wordsWriting};
+ghost use Rattle.wave_c.specs.Interface.{refusedBy, done, ofWritten, ofDecoded, ofEncoded, answerBy, enough, readVerdict, wordsValid, wordsWriting};
 
 // How many bytes or frames there are, or the number of the refusal.
 #[repr(C)]
@@ -165,7 +165,7 @@ pub extern "C" fn tronalhet_sound(file: &[u8], out: &mut [usize]) -> Answer
     ensures answer { λ r. ⌜ r ≡ answerBy (readVerdict 1 (now (file .entry)) (length (now (out .entry))))
         (length (soundIn (now (file .entry)))) ⌝ }
     ensures buffer { λ r. ⌜ now (out .exit) ≡ holding (readVerdict 1 (now (file .entry)) (length (now (out .entry))))
-        (startOf (soundSpot (now (file .entry))) ∷ []) (now (out .entry)) ⌝ }
+        (soundStart (now (file .entry)) ∷ []) (now (out .entry)) ⌝ }
 {
     let opened = reader::open(file);
     let reading = opened.answer;

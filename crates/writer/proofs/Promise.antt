@@ -1,9 +1,10 @@
 -- The promise of writing, from the answer and the buffer; and that it leaves one of each. Assumes nothing.
-use mathlib.Core.Path.{_≡_, refl, sym, ap, _∙_}
+use mathlib.Core.Path.{_≡_, sym, ap, _∙_}
 use mathlib.Core.List.{List}
 use Prim.Native.Nat.{ℕ}
 use lib.ListN.{length}
 use Rattle.little.specs.Writing.{holding}
+use Rattle.little.proofs.Promise.{one-each}
 use Rattle.units.specs.declared.BytePlace.{BytePlace}
 use Rattle.rules.specs.declared.Record.{Record}
 use Rattle.writer.specs.declared.Written.{Written}
@@ -13,10 +14,10 @@ use Rattle.writer.specs.Demands.{WriteNumbered}
 use Rattle.writer.proofs.Settling.{told-long}
 use Rattle.writer.proofs.Demands.{numbered}
 
-pub writes : (m : Record) (w d : List ℕ) {r : Written} {e : List ℕ} → r ≡ writing m w (length d)
+pub write-kept : (m : Record) (w d : List ℕ) {r : Written} {e : List ℕ} → r ≡ writing m w (length d)
     → e ≡ holding (writtenVerdict r) (fileOf m w) d → WritePromise m w d r e
 unfolding WriteNumbered
-writes m w d {r} f g =
+write-kept m w d f g =
     record {
       answer = f;
       number = ap writtenNumber f ∙ numbered m w (length d);
@@ -26,6 +27,4 @@ writes m w d {r} f g =
 
 pub one-writing : OneWriting
 unfolding OneWriting
-one-writing m w d r r′ e e′ p q =
-    let same : r ≡ r′ = p .answer ∙ sym (q .answer) in
-    (same, p .buffer ∙ ap (λ (x : Written). holding (writtenVerdict x) (fileOf m w) d) same ∙ sym (q .buffer))
+one-writing m w d r r′ e e′ p q = one-each writtenVerdict (fileOf m w) d (p .answer) (q .answer) (p .buffer) (q .buffer)

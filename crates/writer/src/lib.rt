@@ -25,7 +25,6 @@ ghost use Rattle.formats.specs.Bytes.{formatBytes};
 ghost use Rattle.rules.specs.Written.{RecordFits};
 ghost use Rattle.riff.specs.Laying.{piece, padBytes, pieceBytes, partBytes, extentIf};
 ghost use Rattle.writer.specs.declared.Written.the-variants.{Bytes};
-ghost use Rattle.writer.specs.Promise.{WritePromise};
 ghost use Rattle.writer.specs.File.{factChunk, cuesChunk, playsChunk, fileOf, untilTables, tablesOf, writing, writtenVerdict};
 
 // What writing answers: the number of bytes of the file, or why there is none.
@@ -248,7 +247,8 @@ fn put_file(made: Record, first: &[u8], second: &[u8], size: BytePlace, out: &mu
 // Writes a record and its sound as a file, from the start of a lent buffer. That the record fits its
 // fields, by its types, is what `Back` and `SameNumber` of specs/Demands.antt ask of it.
 pub fn write(made: Record, sound: &[u8], out: &mut [u8]) -> Written
-    ensures promise { λ r. ⌜ WritePromise made (now (sound .entry)) (now (out .entry)) r (now (out .exit)) ⌝ }
+    ensures answer { λ r. ⌜ r ≡ writing made (now (sound .entry)) (length (now (out .entry))) ⌝ }
+    ensures buffer { λ r. ⌜ now (out .exit) ≡ holding (writtenVerdict r) (fileOf made (now (sound .entry))) (now (out .entry)) ⌝ }
     ensures fits { λ _. ⌜ RecordFits made ⌝ }
 {
     write_joined(made, sound, b"", out)
