@@ -1,7 +1,7 @@
 -- Reading by a file's directory, in the words of the code. Assumes nothing.
 use mathlib.Core.Path.{_≡_, refl, sym, ap, _∙_}
 use mathlib.Core.Bool.{Bool, true, false, not, cond}
-use mathlib.Core.List.{List, [], _∷_}
+use mathlib.Core.List.{List, []}
 use Prim.Native.Nat.{ℕ, _≤_, _<_}
 use native.Mathlib.Omega.{arith}
 use lib.ListN.{length, length-take, length-drop}
@@ -10,7 +10,6 @@ use Rattle.units.specs.declared.Refusal.{Refusal}
 use Rattle.units.specs.declared.Refusal.the-variants.{FormatOrDataMissing}
 use Rattle.units.specs.declared.Verdict.{Verdict}
 use Rattle.units.specs.declared.Verdict.the-variants.{Accepted, Refused}
-use Rattle.units.specs.Checks.{Check, check}
 use Rattle.units.proofs.Checks.{check-fails, check-met}
 use Rattle.riff.specs.declared.Directory.{Directory}
 use Rattle.riff.specs.declared.Spot.{Spot}
@@ -25,8 +24,8 @@ use Rattle.formats.specs.Format.{formatOf}
 use Rattle.formats.specs.Frames.{needsFact}
 use Rattle.rules.specs.declared.Record.{Record}
 use Rattle.rules.specs.declared.Reading.{Reading}
-use Rattle.rules.specs.Rules.{chunkChecks, turnedAway, readingBy, judged}
-use Rattle.reader.specs.Content.{Content, contentBy, zeros, formatPart, soundPart, cuePart, playlistPart, chunksAt, recordAt, checksAt, contentAt, contentIn, contentOf, readingOf, reading, spotBy, soundSpot}
+use Rattle.rules.specs.Rules.{turnedAway, readingBy, judged}
+use Rattle.reader.specs.Content.{Content, contentBy, zeros, formatPart, soundPart, cuePart, playlistPart, chunksAt, recordAt, checksAt, verdictAt, contentAt, contentIn, contentOf, readingOf, reading, spotBy, soundSpot}
 
 -- ---- parts
 module _ (s : List ℕ) (spot : Spot) (f : Format) (needed needless : List ℕ) {a : Bool} (e : a ≡ needsFact f) {r : List ℕ} where
@@ -39,34 +38,27 @@ module _ (s : List ℕ) (spot : Spot) (f : Format) (needed needless : List ℕ) 
 pub ruleset facts = (fact-needed, fact-needless)
 
 -- ---- a directory's reading
-as-judged : {u v : Verdict} (m : Record) (w : List ℕ) → u ≡ v → readingBy u m ≡ readingOf (contentBy v m w)
-as-judged {u} {v} m w e = ap (λ (x : Verdict). readingBy x m) e ∙ by v
-  where
-    by : (x : Verdict) → readingBy x m ≡ readingOf (contentBy x m w)
-    by Accepted = refl
-    by (Refused r) = refl
+as-judged : (v : Verdict) (m : Record) (w : List ℕ) → readingBy v m ≡ readingOf (contentBy v m w)
+as-judged Accepted m w = refl
+as-judged (Refused r) m w = refl
 
-module _ (s : List ℕ) (d : Directory) {a : Bool} (e : a ≡ isThere (d .format)) where
-  abbrev rules : List Check
-  rules = chunkChecks (chunksAt s d) (recordAt s d)
+module _ (s : List ℕ) (d : Directory) where
+  reading-by : {v : Verdict} {x : Reading} → x ≡ readingBy v (recordAt s d) → v ≡ verdictAt s d → x ≡ readingOf (contentAt s d)
+  reading-by g e = g ∙ ap (λ (u : Verdict). readingBy u (recordAt s d)) e ∙ as-judged (verdictAt s d) (recordAt s d) (soundPart s d)
 
-  abbrev more : List Check
-  more = check (isThere (d .sound)) FormatOrDataMissing ∷ rules
-
-  pub read-no-format : {x : Reading} → not a ≡ true → x ≡ turnedAway FormatOrDataMissing → x ≡ readingOf (contentAt s d)
-  unfolding checksAt
-  read-no-format t g = g ∙ as-judged (recordAt s d) (soundPart s d) (check-fails FormatOrDataMissing more e t)
-
-  module _ (t : not a ≡ false) {b : Bool} (f : b ≡ isThere (d .sound)) where
-    pub read-no-sound : {x : Reading} → not b ≡ true → x ≡ turnedAway FormatOrDataMissing → x ≡ readingOf (contentAt s d)
+  module _ {a : Bool} (e : a ≡ isThere (d .format)) where
+    pub read-no-format : {x : Reading} → not a ≡ true → x ≡ turnedAway FormatOrDataMissing → x ≡ readingOf (contentAt s d)
     unfolding checksAt
-    read-no-sound u g =
-        g ∙ as-judged (recordAt s d) (soundPart s d) (check-met FormatOrDataMissing more e t (check-fails FormatOrDataMissing rules f u))
+    read-no-format t g = reading-by g (check-fails FormatOrDataMissing _ e t)
 
-    pub read-both : {x : Reading} → not b ≡ false → x ≡ judged (chunksAt s d) → x ≡ readingOf (contentAt s d)
-    unfolding checksAt judged
-    read-both u g =
-        g ∙ as-judged (recordAt s d) (soundPart s d) (check-met FormatOrDataMissing more e t (check-met FormatOrDataMissing rules f u refl))
+    module _ (t : not a ≡ false) {b : Bool} (f : b ≡ isThere (d .sound)) where
+      pub read-no-sound : {x : Reading} → not b ≡ true → x ≡ turnedAway FormatOrDataMissing → x ≡ readingOf (contentAt s d)
+      unfolding checksAt
+      read-no-sound u g = reading-by g (check-met FormatOrDataMissing _ e t (check-fails FormatOrDataMissing _ f u))
+
+      pub read-both : {x : Reading} → not b ≡ false → x ≡ judged (chunksAt s d) → x ≡ readingOf (contentAt s d)
+      unfolding checksAt judged
+      read-both u g = reading-by g (check-met FormatOrDataMissing _ e t (check-met FormatOrDataMissing _ f u refl))
 
 pub ruleset chunks = (read-no-format, read-no-sound, read-both)
 

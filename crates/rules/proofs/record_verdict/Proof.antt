@@ -1,4 +1,4 @@
--- The tests in the order of the definition.
+-- The tests in the order of the definition; the last answer goes through all of them, hence its depth.
 use Rattle.units.proofs.Checks.{deciding}
 use Rattle.rules.specs.Rules.{recordChecks}
 use borrow.Author.Needs.{needs}
