@@ -25,7 +25,8 @@ pub enum Decoded {
 fn decode_data(format: Format, frames: Frames, bytes: &[u8], out: &mut [i16]) -> Decoded
     requires { ⌜ Sounding format frames (now bytes) ⌝ }
     ensures answer { λ r. ⌜ r ≡ decodedBy (wholeVerdict format (frames .0) (now (bytes .entry)) (length (now (out .entry)))) (frames .0) ⌝ }
-    ensures buffer { λ r. ⌜ now (out .exit) ≡ holding (decodedVerdict r) (wholeSound format (frames .0) (now (bytes .entry))) (now (out .entry)) ⌝ }
+    ensures buffer { λ r. ⌜ now (out .exit)
+        ≡ holding (decodedVerdict r) (wholeSound format (frames .0) (now (bytes .entry))) (now (out .entry)) ⌝ }
 {
     if out.len() < frames.0 as usize * format.channels as usize {
         return Decoded::Refused(Refusal::OutputTooSmall);
@@ -54,7 +55,8 @@ fn has_block(format: Format, bytes: &[u8], block: usize) -> bool
 fn decode_part(format: Format, bytes: &[u8], block: usize, out: &mut [i16]) -> Decoded
     requires { ⌜ formatRule format ≡ true ⌝ }
     ensures answer { λ r. ⌜ r ≡ decodedBy (blockVerdict format (now (bytes .entry)) block (length (now (out .entry)))) (format .samples) ⌝ }
-    ensures buffer { λ r. ⌜ now (out .exit) ≡ holding (decodedVerdict r) (blockSound format (now (bytes .entry)) block) (now (out .entry)) ⌝ }
+    ensures buffer { λ r. ⌜ now (out .exit)
+        ≡ holding (decodedVerdict r) (blockSound format (now (bytes .entry)) block) (now (out .entry)) ⌝ }
 {
     let there = has_block(format, bytes, block);
     if !there {

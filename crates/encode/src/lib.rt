@@ -32,8 +32,8 @@ pub enum Encoded {
 
 // Codes n blocks of a mono sound, from the start of a lent buffer.
 fn mono_blocks(sound: &[i16], align: usize, n: usize, out: &mut [u8]) -> u32
-    requires { ⌜ (align % 4 ≡ 0) × (8 ≤ align) × (align ≤ 4096) × (length (now sound) ≤ 536870912) × (n ≡ blocksFor 1 align (length (now sound)))
-        × (n * align ≤ length (now out)) ⌝ }
+    requires { ⌜ (align % 4 ≡ 0) × (8 ≤ align) × (align ≤ 4096) × (length (now sound) ≤ 536870912)
+        × (n ≡ blocksFor 1 align (length (now sound))) × (n * align ≤ length (now out)) ⌝ }
     ensures answer { λ r. ⌜ r ≡ chasedCount 1 align (now (sound .entry)) 0 ⌝ }
     ensures buffer { λ r. ⌜ now (out .exit) ≡ front (encodedBytes 1 align (now (sound .entry))) (now (out .entry)) ⌝ }
 {
@@ -142,7 +142,8 @@ fn write_blocks(sound: &[i16], channels: usize, align: usize, out: &mut [u8]) ->
 // Encodes a sound as IMA blocks, from the start of a lent buffer.
 pub fn encode(sound: &[i16], channels: u16, align: u16, out: &mut [u8]) -> Encoded
     ensures answer { λ r. ⌜ r ≡ encoding (now (sound .entry)) channels align (length (now (out .entry))) ⌝ }
-    ensures buffer { λ r. ⌜ now (out .exit) ≡ holding (encodedVerdict r) (encodedBytes channels align (now (sound .entry))) (now (out .entry)) ⌝ }
+    ensures buffer { λ r. ⌜ now (out .exit)
+        ≡ holding (encodedVerdict r) (encodedBytes channels align (now (sound .entry))) (now (out .entry)) ⌝ }
 {
     let verdict = settled(sound.len(), channels as usize, align as usize, out.len());
     match verdict {

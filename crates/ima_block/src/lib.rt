@@ -20,6 +20,12 @@ use ima_code::ImaState;
 use ima_code::Steps;
 use ima_code::decode_code;
 
+// Both channels between two codes.
+pub struct ImaStates {
+    pub left: ImaState,
+    pub right: ImaState,
+}
+
 // Whether the header of every channel holds an index in range.
 pub fn headers_valid(block: &[u8], channels: usize) -> bool
     requires { ⌜ (1 ≤ channels) × (channels ≤ 2) × (4 * channels ≤ length (now block)) ⌝ }
@@ -58,7 +64,8 @@ fn mono_codes(
 )
     requires { ⌜ (frames + 8 ≤ 2 * length (now block)) × (at + frames ≤ length (now out)) × (from .index < 89)
         × IsSteps (now table) × IsHeld (now held) ⌝ }
-    ensures buffer { λ _. ⌜ Put (now (out .entry)) at (inTurn 1 frames (imaHeard from (drop 4 (now (block .entry))) ∷ [])) (now (out .exit)) ⌝ }
+    ensures buffer { λ _. ⌜ Put (now (out .entry)) at
+        (inTurn 1 frames (imaHeard from (drop 4 (now (block .entry))) ∷ [])) (now (out .exit)) ⌝ }
 {
     let mut state = from;
     let mut left = frames;
@@ -90,19 +97,19 @@ fn stereo_codes(
     frames: usize,
     table: &Steps,
     held: &Held,
-    left: ImaState,
-    right: ImaState,
+    from: ImaStates,
     out: &mut [i16],
     at: usize,
 )
     requires { ⌜ (frames + 8 ≤ length (now block)) × (length (now block) % 8 ≡ 0) × (at + 2 * frames ≤ length (now out))
-        × (left .index < 89) × (right .index < 89) × IsSteps (now table) × IsHeld (now held) ⌝ }
+        × (from .left .index < 89) × (from .right .index < 89) × IsSteps (now table) × IsHeld (now held) ⌝ }
     ensures buffer { λ _. ⌜ Put (now (out .entry)) at
-        (inTurn 1 frames (imaHeard left (drop 4 (channelPart 2 (now (block .entry)) 0)) ∷ imaHeard right (drop 4 (channelPart 2 (now (block .entry)) 1)) ∷ []))
+        (inTurn 1 frames (imaHeard (from .left) (drop 4 (channelPart 2 (now (block .entry)) 0))
+        ∷ imaHeard (from .right) (drop 4 (channelPart 2 (now (block .entry)) 1)) ∷ []))
         (now (out .exit)) ⌝ }
 {
-    let mut l = left;
-    let mut r = right;
+    let mut l = from.left;
+    let mut r = from.right;
     let mut n = frames;
     let mut to = at;
     let mut i = 0;
@@ -163,7 +170,11 @@ fn stereo(block: &[u8], frames: usize, table: &Steps, held: &Held, out: &mut [i1
     let y = right.last;
     out[at] = x;
     out[at + 1] = y;
-    stereo_codes(block, frames - 1, table, held, left, right, out, at + 2);
+    let from = ImaStates {
+        left: left,
+        right: right,
+    };
+    stereo_codes(block, frames - 1, table, held, from, out, at + 2);
 }
 
 // Puts the first frames of a block at a place. The table of steps is lent, so that it is copied once

@@ -115,15 +115,15 @@ module _ (s : List ℤ) (at groups : ℕ) (p q : Channel) {t u : Channel} (h : a
   right-next : at + 2 + 1 ≡ at + 1 + 2
   right-next = omega arith
 
-  pub left-after : {r : Channel} → r ≡ channelAfter t ((length s - at) / 2 - 1) (lefts s (at + 2) n)
+  pub left-after : {r : Channel} → r ≡ channelAfter t ((length s - (at + 2)) / 2) (lefts s (at + 2) n)
       → r ≡ channelAfterBlock p ((length s - at) / 2) (lefts s at (n + 1))
-  left-after e = e ∙ sym (after-is s 2 (length s - 2) at n left-here p f a ((length s - at) / 2 - 1) (omega arith))
+  left-after e = e ∙ sym (after-is s 2 (length s - 2) at n left-here p f a ((length s - (at + 2)) / 2) (omega arith))
 
-  pub right-after : {r : Channel} → r ≡ channelAfter u ((length s - at) / 2 - 1) (rights s (at + 2) n)
+  pub right-after : {r : Channel} → r ≡ channelAfter u ((length s - (at + 2)) / 2) (rights s (at + 2) n)
       → r ≡ channelAfterBlock q ((length s - at) / 2) (rights s at (n + 1))
   right-after e =
       (rw right-next at e)
-      ∙ sym (after-is s 2 (length s - 1) (at + 1) n right-here q g b ((length s - at) / 2 - 1) (omega arith))
+      ∙ sym (after-is s 2 (length s - 1) (at + 1) n right-here q g b ((length s - (at + 2)) / 2) (omega arith))
 
   abbrev heads : ℤ → ℤ → List ℕ
   heads x y = blockHead x (p .state .index) ++ blockHead y (q .state .index)

@@ -53,10 +53,11 @@ pub record Coding (s : List ℤ) (stride last left at n to : ℕ) (t₀ : ImaSta
       (bytesOf t (samplesFrom s stride last x (2 * (n - i)))) (to + i) out out₀
 
 -- every sample is there
-pub record Real (s : List ℤ) (stride at n to : ℕ) (t₀ : ImaState) (chased₀ : ℕ) (out₀ : List ℕ)
+pub record Real (s : List ℤ) (stride last at n to : ℕ) (t₀ : ImaState) (chased₀ : ℕ) (out₀ : List ℕ)
     (t : ImaState) (chased x i : ℕ) (out : List ℕ) : Type 0 where
-  pub inside : stride * (2 * (n - i)) ≤ length s - 1 + stride - x
-  pub coding : Coding s stride (length s - 1) (2 * n) at n to t₀ chased₀ out₀ t chased (2 * (n - i)) x i out
+  pub there : last < length s
+  pub inside : stride * (2 * (n - i)) ≤ last + stride - x
+  pub coding : Coding s stride last (2 * n) at n to t₀ chased₀ out₀ t chased (2 * (n - i)) x i out
 
 -- past the sound the last sample is repeated
 pub record Fill (s : List ℤ) (stride last left at n to : ℕ) (t₀ : ImaState) (chased₀ : ℕ) (out₀ : List ℕ)
@@ -90,11 +91,12 @@ module _ {s : List ℤ} {stride last left at n to : ℕ} {t₀ : ImaState} {chas
       → Fill s stride last left at n to t₀ chased₀ out₀ t₀ chased₀ at 0 out₀
   fill-begins a b o c d e f g = record { inside = a; coding = rw (sub-zero left) (begins b o c d e f g) }
 
-module _ {s : List ℤ} {stride at n to : ℕ} {t₀ : ImaState} {chased₀ : ℕ} {out₀ : List ℕ} where
-  pub real-begins : stride * (2 * n) ≤ length s - 1 + stride - at → at ≤ 4294967296 → 1 ≤ stride → stride ≤ 2
+module _ {s : List ℤ} {stride last at n to : ℕ} {t₀ : ImaState} {chased₀ : ℕ} {out₀ : List ℕ} where
+  pub real-begins : last < length s → stride * (2 * n) ≤ last + stride - at → at ≤ 4294967296 → 1 ≤ stride → stride ≤ 2
       → n ≤ 4096 → to + n ≤ length out₀ → t₀ .index < 89 → chased₀ + 2 * n < 4294967296
-      → Real s stride at n to t₀ chased₀ out₀ t₀ chased₀ at 0 out₀
-  real-begins a b o c d e f g = record { inside = rw (sub-zero n) a; coding = rw (sub-zero n) (begins b o c d e f g) }
+      → Real s stride last at n to t₀ chased₀ out₀ t₀ chased₀ at 0 out₀
+  real-begins h a b o c d e f g =
+      record { there = h; inside = rw (sub-zero n) a; coding = rw (sub-zero n) (begins b o c d e f g) }
 
 -- ---- two samples
 two-left : {n i : ℕ} → i < n → 2 * (n - i) ≡ suc (suc (2 * (n - (i + 1))))
@@ -206,34 +208,35 @@ module _ {s : List ℤ} {stride last left at n to : ℕ} {t₀ : ImaState} {chas
   ends-put = filled-put (rw (none, bytes-none s stride last x t) at (w .filled)) (omega (arith, w .room))
 
 -- ---- a turn where every sample is there
-module _ {s : List ℤ} {stride at n to : ℕ} {t₀ : ImaState} {chased₀ : ℕ} {out₀ : List ℕ}
+module _ {s : List ℤ} {stride last at n to : ℕ} {t₀ : ImaState} {chased₀ : ℕ} {out₀ : List ℕ}
     {t : ImaState} {chased x i : ℕ} {out : List ℕ}
-    (w : Real s stride at n to t₀ chased₀ out₀ t chased x i out) (h : i < n) where
-  two-strides : stride * (2 * (n - (i + 1))) + stride + stride ≤ length s - 1 + stride - x
+    (w : Real s stride last at n to t₀ chased₀ out₀ t chased x i out) (h : i < n) where
+  two-strides : stride * (2 * (n - (i + 1))) + stride + stride ≤ last + stride - x
   two-strides =
       let m : ℕ = 2 * (n - (i + 1)) in
       omega (arith, w .inside, ap (λ (k : ℕ). stride * k) (two-left h), mul-suc stride (suc m), mul-suc stride m)
 
   pub real-first : x < length s
-  real-first = omega (arith, two-strides, w .coding .some)
+  real-first = omega (arith, two-strides, w .coding .some, w .there)
 
   pub real-second : x + stride < length s
-  real-second = omega (arith, two-strides, w .coding .some)
+  real-second = omega (arith, two-strides, w .coding .some, w .there)
 
   pub real-next : {a b : SampleCode} {u v : ℕ} → SFits w16 (sample s x) → SFits w16 (sample s (x + stride))
       → a .code ≡ codeFor t (local s x) → a .state ≡ tracked t (local s x) → a .chased ≡ isChased t (local s x)
       → b .code ≡ codeFor (a .state) (local s (x + stride)) → b .state ≡ tracked (a .state) (local s (x + stride))
       → b .chased ≡ isChased (a .state) (local s (x + stride)) → b .state .index < 89
       → u ≡ cond (true && a .chased) 1 0 → u ≤ 1 → v ≡ cond (true && b .chased) 1 0 → v ≤ 1
-      → Real s stride at n to t₀ chased₀ out₀ (b .state) (chased + u + v)
+      → Real s stride last at n to t₀ chased₀ out₀ (b .state) (chased + u + v)
       (x + (stride + stride)) (i + 1) (set out (to + i) (a .code + 16 * b .code))
   real-next {a} {b} {u} {v} fy fz ek eta ec el etb ed g eu bu ev bv =
-      let p : min x (length s - 1) ≡ x = omega (arith, real-first) in
-      let q : min (x + stride) (length s - 1) ≡ x + stride = omega (arith, real-second) in
+      let p : min x last ≡ x = omega (arith, two-strides) in
+      let q : min (x + stride) last ≡ x + stride = omega (arith, two-strides, w .coding .some) in
       let r : 2 * (n - (i + 1)) ≡ 2 * (n - i) - 2 = omega arith in
       let c : ltb 0 (2 * (n - i)) ≡ true = lt-ltb 0 (2 * (n - i)) (omega arith) in
       let d : ltb 1 (2 * (n - i)) ≡ true = lt-ltb 1 (2 * (n - i)) (omega arith) in
       record {
+        there = w .there;
         inside = omega (arith, two-strides);
         coding =
             rw r
@@ -243,12 +246,12 @@ module _ {s : List ℤ} {stride at n to : ℕ} {t₀ : ImaState} {chased₀ : �
             (rw (toZ-ofZ fz) at el) (rw (toZ-ofZ fz) at etb) (rw (d, ← (rw (toZ-ofZ fz) at ed)) ev) bu bv g);
       }
 
-module _ {s : List ℤ} {stride at n to : ℕ} (p : Channel) {out₀ : List ℕ} {t : ImaState} {chased x i : ℕ} {out : List ℕ}
-    (w : Real s stride at n to (p .state) (p .chased) out₀ t chased x i out) (h : n ≤ i) where
-  pub real-after : channel t chased ≡ channelAfter p (2 * n) (samplesFrom s stride (length s - 1) at (2 * n))
+module _ {s : List ℤ} {stride last at n to : ℕ} (p : Channel) {out₀ : List ℕ} {t : ImaState} {chased x i : ℕ} {out : List ℕ}
+    (w : Real s stride last at n to (p .state) (p .chased) out₀ t chased x i out) (h : n ≤ i) where
+  pub real-after : channel t chased ≡ channelAfter p (2 * n) (samplesFrom s stride last at (2 * n))
   real-after = ends-after (w .coding) h
 
-  pub real-put : Put out₀ to (bytesOf (p .state) (samplesFrom s stride (length s - 1) at (2 * n))) out
+  pub real-put : Put out₀ to (bytesOf (p .state) (samplesFrom s stride last at (2 * n))) out
   real-put = ends-put (w .coding) h
 
 pub ruleset real-coding = (real-begins, real-first, real-next, real-after, real-put)

@@ -2,7 +2,7 @@
 -- four bytes of each. Assumes nothing.
 use mathlib.Core.Path.{_≡_, refl, sym, ap, _∙_}
 use mathlib.Core.List.{List, [], _∷_, _++_, append-assoc}
-use Prim.Native.Nat.{ℕ, suc, _+_, _-_, _*_, _≤_, _<_}
+use Prim.Native.Nat.{ℕ, suc, _+_, _-_, _*_, _/_, _≤_, _<_}
 use native.Mathlib.Omega.{arith}
 use native.Mathlib.Nat.{sub-zero}
 use lib.IntN.{ℤ}
@@ -90,6 +90,10 @@ pub record Groups (s : List ℤ) (left at groups to : ℕ) (from : Channels) (ou
   pub right-along : Along s (length s - 1) left (at + 1) groups (from .right) (p .right) there (x + 1) i
   pub filled : Filled (take to out₀ ++ groupsOf s (from .left .state) (from .right .state) at groups)
       (groupsOf s (p .left .state) (p .right .state) x (groups - i)) y out out₀
+
+-- both channels have half of what is there
+pub half-there : (n : ℕ) → 2 * (n / 2) ≤ n
+half-there n = omega arith
 
 pub groups-begin : {s : List ℤ} {left at groups to : ℕ} {from : Channels} {out : List ℕ}
     → 2 ≤ length s → 2 * left ≤ length s - at → at ≤ 1073741824 → groups ≤ 511 → to + 8 * groups ≤ length out
@@ -183,7 +187,7 @@ module _ {s : List ℤ} {left at groups to : ℕ} {from : Channels} {out₀ : Li
         let n : groups - i ≡ 0 = omega arith in
         filled-put (rw n at (w .filled)) (omega (arith, w .room))
 
-pub ruleset grouping = (groups-begin, groups-next, groups-left, groups-right, groups-put)
+pub ruleset grouping = (half-there, groups-begin, groups-next, groups-left, groups-right, groups-put)
 
 -- ---- one group: four bytes of one channel, and four of the other behind them
 pub group-put : (t u : ImaState) (s : List ℤ) (k l x z : ℕ) {d e f : List ℕ} {to : ℕ}

@@ -9,6 +9,7 @@ use Rattle.samples.specs.Sound.{sampleBytes}
 use Rattle.ima_code.specs.Machine.{codesOf, after, chasedOf}
 use Rattle.ima_coder.specs.declared.Channel.{Channel}
 use Rattle.ima_coder.specs.declared.Channels.{Channels}
+use Rattle.ima_coder.specs.declared.Samples.{Samples}
 use Rattle.little.specs.Writing.{Put}
 
 -- n samples of a channel, the first at index x of the sound and each of the others a stride further; the channel's last
@@ -16,6 +17,10 @@ use Rattle.little.specs.Writing.{Put}
 unfoldable pub samplesFrom : List ℤ → ℕ → ℕ → ℕ → ℕ → List ℤ
 samplesFrom s stride last x zero = []
 samplesFrom s stride last x (suc n) = getD s (min x last) (pos 0) ∷ samplesFrom s stride last (x + stride) n
+
+-- so many of those that the code names
+abbrev pub samplesOf : List ℤ → Samples → ℕ → List ℤ
+samplesOf s which n = samplesFrom s (which .stride) (which .last) (which .at) n
 
 -- codes in bytes, low nibble first
 unfoldable pub packed : List ℕ → List ℕ
@@ -61,6 +66,10 @@ unfoldable pub channelAfterBlock : Channel → ℕ → List ℤ → Channel
 channelAfterBlock t n [] = t
 channelAfterBlock t n (x ∷ xs) = channelAfter (openedWith t x) (n - 1) xs
 
+-- ---- one channel: n samples, the first at index at
+abbrev pub monosFrom : List ℤ → ℕ → ℕ → List ℤ
+monosFrom s at n = samplesFrom s 1 (length s - 1) at n
+
 -- ---- two channels: n samples of the left one, whose next is at index at, and n of the right one beside it
 abbrev pub leftsFrom : List ℤ → ℕ → ℕ → List ℤ
 leftsFrom s at n = samplesFrom s 2 (length s - 2) at n
@@ -72,6 +81,14 @@ rightsFrom s at n = samplesFrom s 2 (length s - 1) (at + 1) n
 abbrev pub Ran : Channel → ℕ → Channel → List ℕ → Channel → List ℕ → ℕ → List ℕ → Type 0
 Ran from n after bytes r d to e =
     (r ≡ after) × (r .state .index < 89) × (r .chased ≤ from .chased + n) × Put d to bytes e
+
+-- the same of n samples xs without their header, of which so many are there
+abbrev pub RanOver : Channel → ℕ → ℕ → List ℤ → Channel → List ℕ → ℕ → List ℕ → Type 0
+RanOver from n there xs r d to e = Ran from n (channelAfter from there xs) (packed (codesOf (from .state) xs)) r d to e
+
+-- of a block of a channel
+abbrev pub RanBlock : Channel → ℕ → ℕ → List ℤ → Channel → List ℕ → ℕ → List ℕ → Type 0
+RanBlock from n there xs r d to e = Ran from n (channelAfterBlock from there xs) (codedPart (from .state .index) xs) r d to e
 
 -- the same of both channels
 abbrev pub BothRan : Channels → ℕ → Channel → Channel → List ℕ → Channels → List ℕ → ℕ → List ℕ → Type 0

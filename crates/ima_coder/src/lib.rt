@@ -12,7 +12,7 @@ ghost use Rattle.little.specs.Writing.{Put};
 ghost use Rattle.lists.specs.Turns.{inTurn};
 ghost use Rattle.ima_code.specs.Code.{IsSteps, codeFor, tracked, isChased};
 ghost use Rattle.ima_code.specs.Machine.{codesOf};
-ghost use Rattle.ima_coder.specs.Part.{samplesFrom, packed, blockHead, codedPart, channelAfter, openedWith, channelAfterBlock, leftsFrom, rightsFrom, Ran, BothRan};
+ghost use Rattle.ima_coder.specs.Part.{samplesOf, packed, blockHead, codedPart, channelAfter, openedWith, channelAfterBlock, monosFrom, leftsFrom, rightsFrom, RanOver, RanBlock, BothRan};
 use ima_code::ImaState;
 use ima_code::Steps;
 use ima_code::encode_code;
@@ -27,6 +27,15 @@ pub struct Channel {
 pub struct Channels {
     pub left: Channel,
     pub right: Channel,
+}
+
+// Which samples of a sound are a channel's next: the first at index `at`, the others a stride apart. So many as
+// `left` are there, and past index `last` the sample there is repeated.
+pub struct Samples {
+    pub at: usize,
+    pub stride: usize,
+    pub last: usize,
+    pub left: usize,
 }
 
 // Two samples coded: their codes in a byte, whether each is chased, and the state after them.
@@ -70,30 +79,28 @@ fn less(a: usize, b: usize) -> usize
     a - b
 }
 
-// Codes n bytes of a channel, two samples to each, the samples from index `at` on, a stride apart; all of
-// them are there.
+// Codes n bytes of a channel, two samples to each; all of them are there.
 fn real_bytes(
     sound: &[i16],
-    at: usize,
-    stride: usize,
+    which: Samples,
     n: usize,
     table: &Steps,
     from: Channel,
     out: &mut [u8],
     to: usize,
 ) -> Channel
-    requires { ⌜ (at ≤ 4294967296) × (stride * (2 * n) ≤ length (now sound) - 1 + stride - at) × (1 ≤ stride) × (stride ≤ 2) × (n ≤ 4096) × (to + n ≤ length (now out))
+    requires { ⌜ (which .last < length (now sound)) × (which .stride * (2 * n) ≤ which .last + which .stride - which .at)
+        × (which .at ≤ 4294967296) × (1 ≤ which .stride) × (which .stride ≤ 2) × (n ≤ 4096) × (to + n ≤ length (now out))
         × (from .state .index < 89) × (from .chased + 2 * n < 4294967296) × IsSteps (now table) ⌝ }
-    ensures ran { λ r. ⌜ Ran from (2 * n)
-        (channelAfter from (2 * n) (samplesFrom (now (sound .entry)) stride (length (now (sound .entry)) - 1) at (2 * n)))
-        (packed (codesOf (from .state) (samplesFrom (now (sound .entry)) stride (length (now (sound .entry)) - 1) at (2 * n))))
-        r (now (out .entry)) to (now (out .exit)) ⌝ }
+    ensures ran { λ r. ⌜ RanOver from (2 * n) (2 * n) (samplesOf (now (sound .entry)) which (2 * n)) r
+        (now (out .entry)) to (now (out .exit)) ⌝ }
 {
     let mut state = from.state;
     let mut chased = from.chased;
-    let mut x = at;
+    let mut x = which.at;
     let mut i = 0;
     while i < n {
+        let stride = which.stride;
         let a = encode_code(state, sound[x], table);
         let b = encode_code(a.state, sound[x + stride], table);
         out[to + i] = (a.code + 16 * b.code) as u8;
@@ -128,30 +135,29 @@ fn two_samples(state: ImaState, first: i16, second: i16, table: &Steps) -> Two
     }
 }
 
-// Codes n bytes of a channel as `real_bytes` does, where only the next `left` samples are there: past index
-// `last` the sample there is coded again, and only those that are there are counted.
+// Codes n bytes of a channel as `real_bytes` does, where not all of the samples are there: past the last one that
+// one is coded again, and only those that are there are counted.
 fn filled_bytes(
     sound: &[i16],
-    at: usize,
-    stride: usize,
-    last: usize,
-    left: usize,
+    which: Samples,
     n: usize,
     table: &Steps,
     from: Channel,
     out: &mut [u8],
     to: usize,
 ) -> Channel
-    requires { ⌜ (last < length (now sound)) × (at ≤ 4294967296) × (1 ≤ stride) × (stride ≤ 2) × (n ≤ 4096) × (to + n ≤ length (now out))
+    requires { ⌜ (which .last < length (now sound)) × (which .at ≤ 4294967296) × (1 ≤ which .stride) × (which .stride ≤ 2)
+        × (n ≤ 4096) × (to + n ≤ length (now out))
         × (from .state .index < 89) × (from .chased + 2 * n < 4294967296) × IsSteps (now table) ⌝ }
-    ensures ran { λ r. ⌜ Ran from (2 * n)
-        (channelAfter from left (samplesFrom (now (sound .entry)) stride last at (2 * n)))
-        (packed (codesOf (from .state) (samplesFrom (now (sound .entry)) stride last at (2 * n))))
-        r (now (out .entry)) to (now (out .exit)) ⌝ }
+    ensures ran { λ r. ⌜ RanOver from (2 * n) (which .left) (samplesOf (now (sound .entry)) which (2 * n)) r
+        (now (out .entry)) to (now (out .exit)) ⌝ }
 {
+    let stride = which.stride;
+    let last = which.last;
+    let left = which.left;
     let mut state = from.state;
     let mut chased = from.chased;
-    let mut x = at;
+    let mut x = which.at;
     let mut i = 0;
     while i < n {
         let y = least(x, last);
@@ -169,30 +175,26 @@ fn filled_bytes(
     }
 }
 
-// Codes n bytes of a channel, of which the next `left` samples are there.
+// Codes n bytes of a channel.
 fn channel_bytes(
     sound: &[i16],
-    at: usize,
-    stride: usize,
-    last: usize,
-    left: usize,
+    which: Samples,
     n: usize,
     table: &Steps,
     from: Channel,
     out: &mut [u8],
     to: usize,
 ) -> Channel
-    requires { ⌜ (last < length (now sound)) × (stride * left ≤ last + stride - at) × (at ≤ 4294967296) × (1 ≤ stride) × (stride ≤ 2) × (n ≤ 4096)
-        × (to + n ≤ length (now out)) × (from .state .index < 89) × (from .chased + 2 * n < 4294967296) × IsSteps (now table) ⌝ }
-    ensures ran { λ r. ⌜ Ran from (2 * n)
-        (channelAfter from left (samplesFrom (now (sound .entry)) stride last at (2 * n)))
-        (packed (codesOf (from .state) (samplesFrom (now (sound .entry)) stride last at (2 * n))))
-        r (now (out .entry)) to (now (out .exit)) ⌝ }
+    requires { ⌜ (which .last < length (now sound)) × (which .stride * which .left ≤ which .last + which .stride - which .at)
+        × (which .at ≤ 4294967296) × (1 ≤ which .stride) × (which .stride ≤ 2) × (n ≤ 4096) × (to + n ≤ length (now out))
+        × (from .state .index < 89) × (from .chased + 2 * n < 4294967296) × IsSteps (now table) ⌝ }
+    ensures ran { λ r. ⌜ RanOver from (2 * n) (which .left) (samplesOf (now (sound .entry)) which (2 * n)) r
+        (now (out .entry)) to (now (out .exit)) ⌝ }
 {
-    if 2 * n <= left {
-        return real_bytes(sound, at, stride, n, table, from, out, to);
+    if 2 * n <= which.left {
+        return real_bytes(sound, which, n, table, from, out, to);
     }
-    filled_bytes(sound, at, stride, last, left, n, table, from, out, to)
+    filled_bytes(sound, which, n, table, from, out, to)
 }
 
 // Opens a block of a channel with a sample: puts its header.
@@ -225,7 +227,8 @@ fn open_both(left: i16, right: i16, from: Channels, out: &mut [u8], to: usize) -
         × (r .right .state .index < 89)
         × (r .left .chased ≡ from .left .chased)
         × (r .right .chased ≡ from .right .chased)
-        × Put (now (out .entry)) to (blockHead left (from .left .state .index) ++ blockHead right (from .right .state .index)) (now (out .exit)) ⌝ }
+        × Put (now (out .entry)) to (blockHead left (from .left .state .index) ++ blockHead right (from .right .state .index))
+        (now (out .exit)) ⌝ }
 {
     let l = open(left, from.left, out, to);
     let r = open(right, from.right, out, to + 4);
@@ -242,27 +245,20 @@ pub fn mono_block(
     out: &mut [u8],
     to: usize,
 ) -> Channel
-    requires { ⌜ (frame < length (now sound)) × (length (now sound) ≤ 536870912) × (groups ≤ 1023) × (to + 4 * groups + 4 ≤ length (now out))
-        × (from .state .index < 89) × (from .chased + 8 * groups < 4294967296) × IsSteps (now table) ⌝ }
-    ensures ran { λ r. ⌜ Ran from (8 * groups)
-        (channelAfterBlock from (length (now (sound .entry)) - frame) (samplesFrom (now (sound .entry)) 1 (length (now (sound .entry)) - 1) frame (8 * groups + 1)))
-        (codedPart (from .state .index) (samplesFrom (now (sound .entry)) 1 (length (now (sound .entry)) - 1) frame (8 * groups + 1)))
-        r (now (out .entry)) to (now (out .exit)) ⌝ }
+    requires { ⌜ (frame < length (now sound)) × (length (now sound) ≤ 536870912) × (groups ≤ 1023)
+        × (to + 4 * groups + 4 ≤ length (now out)) × (from .state .index < 89) × (from .chased + 8 * groups < 4294967296) × IsSteps (now table) ⌝ }
+    ensures ran { λ r. ⌜ RanBlock from (8 * groups) (length (now (sound .entry)) - frame)
+        (monosFrom (now (sound .entry)) frame (8 * groups + 1)) r (now (out .entry)) to (now (out .exit)) ⌝ }
 {
     let n = sound.len();
     let channel = open(sound[frame], from, out, to);
-    channel_bytes(
-        sound,
-        frame + 1,
-        1,
-        n - 1,
-        n - (frame + 1),
-        4 * groups,
-        table,
-        channel,
-        out,
-        to + 4,
-    )
+    let codes = Samples {
+        at: frame + 1,
+        stride: 1,
+        last: n - 1,
+        left: n - (frame + 1),
+    };
+    channel_bytes(sound, codes, 4 * groups, table, channel, out, to + 4)
 }
 
 // Codes eight frames of both channels: four bytes of the left one, then four of the right one.
@@ -281,50 +277,50 @@ fn stereo_group(
     ensures ran { λ r. ⌜ BothRan from 8
         (channelAfter (from .left) left (leftsFrom (now (sound .entry)) at 8))
         (channelAfter (from .right) left (rightsFrom (now (sound .entry)) at 8))
-        (packed (codesOf (from .left .state) (leftsFrom (now (sound .entry)) at 8)) ++ packed (codesOf (from .right .state) (rightsFrom (now (sound .entry)) at 8)))
+        (packed (codesOf (from .left .state) (leftsFrom (now (sound .entry)) at 8))
+        ++ packed (codesOf (from .right .state) (rightsFrom (now (sound .entry)) at 8)))
         r (now (out .entry)) to (now (out .exit)) ⌝ }
 {
     let n = sound.len();
-    let l = channel_bytes(sound, at, 2, n - 2, left, 4, table, from.left, out, to);
-    let r = channel_bytes(
-        sound,
-        at + 1,
-        2,
-        n - 1,
-        left,
-        4,
-        table,
-        from.right,
-        out,
-        to + 4,
-    );
+    let lefts = Samples {
+        at: at,
+        stride: 2,
+        last: n - 2,
+        left: left,
+    };
+    let rights = Samples {
+        at: at + 1,
+        stride: 2,
+        last: n - 1,
+        left: left,
+    };
+    let l = channel_bytes(sound, lefts, 4, table, from.left, out, to);
+    let r = channel_bytes(sound, rights, 4, table, from.right, out, to + 4);
     Channels { left: l, right: r }
 }
 
-// Codes groups of eight frames of both channels, four bytes of each channel in turn. Of each channel
-// the next `left` samples are there.
+// Codes groups of eight frames of both channels, four bytes of each channel in turn.
 fn stereo_groups(
     sound: &[i16],
     at: usize,
-    left: usize,
     groups: usize,
     table: &Steps,
     from: Channels,
     out: &mut [u8],
     to: usize,
 ) -> Channels
-    requires { ⌜ (2 ≤ length (now sound)) × (2 * left ≤ length (now sound) - at) × (at ≤ 1073741824) × (groups ≤ 511)
+    requires { ⌜ (2 ≤ length (now sound)) × (at ≤ length (now sound)) × (at ≤ 1073741824) × (groups ≤ 511)
         × (to + 8 * groups ≤ length (now out)) × (from .left .state .index < 89) × (from .right .state .index < 89)
         × (from .left .chased + 8 * groups < 4294967296) × (from .right .chased + 8 * groups < 4294967296) × IsSteps (now table) ⌝ }
     ensures ran { λ r. ⌜ BothRan from (8 * groups)
-        (channelAfter (from .left) left (leftsFrom (now (sound .entry)) at (8 * groups)))
-        (channelAfter (from .right) left (rightsFrom (now (sound .entry)) at (8 * groups)))
+        (channelAfter (from .left) ((length (now (sound .entry)) - at) / 2) (leftsFrom (now (sound .entry)) at (8 * groups)))
+        (channelAfter (from .right) ((length (now (sound .entry)) - at) / 2) (rightsFrom (now (sound .entry)) at (8 * groups)))
         (inTurn 4 groups (packed (codesOf (from .left .state) (leftsFrom (now (sound .entry)) at (8 * groups)))
         ∷ packed (codesOf (from .right .state) (rightsFrom (now (sound .entry)) at (8 * groups))) ∷ []))
         r (now (out .entry)) to (now (out .exit)) ⌝ }
 {
     let mut channels = from;
-    let mut there = left;
+    let mut there = (sound.len() - at) / 2;
     let mut x = at;
     let mut y = to;
     let mut i = 0;
@@ -348,7 +344,8 @@ pub fn stereo_block(
     out: &mut [u8],
     to: usize,
 ) -> Channels
-    requires { ⌜ (at + 2 ≤ length (now sound)) × (length (now sound) ≤ 536870912) × (groups ≤ 511) × (to + 8 * groups + 8 ≤ length (now out))
+    requires { ⌜ (at + 2 ≤ length (now sound)) × (length (now sound) ≤ 536870912) × (groups ≤ 511)
+        × (to + 8 * groups + 8 ≤ length (now out))
         × (from .left .state .index < 89) × (from .right .state .index < 89)
         × (from .left .chased + 8 * groups < 4294967296) × (from .right .chased + 8 * groups < 4294967296) × IsSteps (now table) ⌝ }
     ensures ran { λ r. ⌜ BothRan from (8 * groups)
@@ -358,7 +355,6 @@ pub fn stereo_block(
         ∷ codedPart (from .right .state .index) (rightsFrom (now (sound .entry)) at (8 * groups + 1)) ∷ []))
         r (now (out .entry)) to (now (out .exit)) ⌝ }
 {
-    let left = (sound.len() - at) / 2 - 1;
     let channels = open_both(sound[at], sound[at + 1], from, out, to);
-    stereo_groups(sound, at + 2, left, groups, table, channels, out, to + 8)
+    stereo_groups(sound, at + 2, groups, table, channels, out, to + 8)
 }

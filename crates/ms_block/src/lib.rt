@@ -61,7 +61,8 @@ fn mono_nibbles(
 )
     requires { ⌜ (frames + 14 ≤ 2 * length (now block)) × (at + frames ≤ length (now out))
         × Tame from × IsFactors (now table) ⌝ }
-    ensures buffer { λ _. ⌜ Put (now (out .entry)) at (inTurn 1 frames (msHeard from (channelNibbles 1 (now (block .entry)) 0) ∷ [])) (now (out .exit)) ⌝ }
+    ensures buffer { λ _. ⌜ Put (now (out .entry)) at
+        (inTurn 1 frames (msHeard from (channelNibbles 1 (now (block .entry)) 0) ∷ [])) (now (out .exit)) ⌝ }
 {
     let mut state = from;
     let mut left = frames;
@@ -100,7 +101,8 @@ fn stereo_nibbles(
     requires { ⌜ (frames + 14 ≤ length (now block)) × (at + 2 * frames ≤ length (now out))
         × Tame left × Tame right × IsFactors (now table) ⌝ }
     ensures buffer { λ _. ⌜ Put (now (out .entry)) at
-        (inTurn 1 frames (msHeard left (channelNibbles 2 (now (block .entry)) 0) ∷ msHeard right (channelNibbles 2 (now (block .entry)) 1) ∷ []))
+        (inTurn 1 frames (msHeard left (channelNibbles 2 (now (block .entry)) 0)
+        ∷ msHeard right (channelNibbles 2 (now (block .entry)) 1) ∷ []))
         (now (out .exit)) ⌝ }
 {
     let mut l = left;

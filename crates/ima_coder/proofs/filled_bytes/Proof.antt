@@ -6,11 +6,11 @@ use Rattle.ima_coder.proofs.filled_bytes.Statement.{statement}
 use Rattle.ima_coder.proofs.filled_bytes.Tie as tie
 
 abbrev Inv-loop : tie.InvT-loop
-Inv-loop sound at stride last left n table out₀ to state₀ chased₀ x₀ i₀ out state chased x i =
-    Fill sound stride last left at n to state₀ chased₀ out₀ state chased x i out
+Inv-loop sound n table out₀ to stride last left state₀ chased₀ x₀ i₀ out state chased x i =
+    Fill sound stride last left x₀ n to state₀ chased₀ out₀ state chased x i out
 
 abbrev μ-loop : tie.MeasureT-loop
-μ-loop sound at stride last left n table out₀ to state₀ chased₀ x₀ i₀ out state chased x i = n - i
+μ-loop sound n table out₀ to stride last left state₀ chased₀ x₀ i₀ out state chased x i = n - i
 
 pub filled-bytes-spec : {M : Type 1} → statement M
 filled-bytes-spec =

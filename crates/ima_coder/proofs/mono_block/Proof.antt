@@ -1,7 +1,7 @@
 -- The header's bytes, and behind them the codes of the other samples.
 use native.Mathlib.Omega.{arith}
-use borrow.Author.Needs.{needs}
 use Rattle.ima_coder.proofs.Block.{mono-block}
+use borrow.Author.Needs.{needs}
 use Rattle.ima_coder.proofs.mono_block.Statement.{statement}
 use Rattle.ima_coder.proofs.mono_block.Tie as tie
 
