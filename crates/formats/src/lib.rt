@@ -459,7 +459,8 @@ fn average_of(format: Format) -> u32
 // Puts tag, channels and rate.
 fn put_kind(out: &mut [u8], at: usize, format: Format)
     requires { ⌜ at + 8 ≤ length (now out) ⌝ }
-    ensures buffer { λ _. ⌜ Put (now (out .entry)) at (bytesOf 2 (format .tag) ++ (bytesOf 2 (format .channels) ++ bytesOf 4 (format .rate))) (now (out .exit)) ⌝ }
+    ensures buffer { λ _. ⌜ Put (now (out .entry)) at
+        (bytesOf 2 (format .tag) ++ (bytesOf 2 (format .channels) ++ bytesOf 4 (format .rate))) (now (out .exit)) ⌝ }
 {
     little::put_u16(out, at, format.tag);
     little::put_u16(out, at + 2, format.channels);
@@ -470,7 +471,8 @@ fn put_kind(out: &mut [u8], at: usize, format: Format)
 fn put_sizes(out: &mut [u8], at: usize, format: Format)
     requires { ⌜ formatRule format ≡ true ⌝ }
     requires { ⌜ at + 8 ≤ length (now out) ⌝ }
-    ensures buffer { λ _. ⌜ Put (now (out .entry)) at (bytesOf 4 (averageOf format) ++ (bytesOf 2 (format .align) ++ bytesOf 2 (format .bits))) (now (out .exit)) ⌝ }
+    ensures buffer { λ _. ⌜ Put (now (out .entry)) at
+        (bytesOf 4 (averageOf format) ++ (bytesOf 2 (format .align) ++ bytesOf 2 (format .bits))) (now (out .exit)) ⌝ }
 {
     let average = average_of(format);
     little::put_u32(out, at, average);
@@ -500,7 +502,8 @@ fn put_extension(out: &mut [u8], at: usize, size: u16, format: Format)
 // Puts a pair.
 fn put_pair(out: &mut [u8], at: usize, pair: [i16; 2])
     requires { ⌜ at + 4 ≤ length (now out) ⌝ }
-    ensures buffer { λ _. ⌜ Put (now (out .entry)) at (sampleBytes (getD pair 0 (pos 0)) ++ sampleBytes (getD pair 1 (pos 0))) (now (out .exit)) ⌝ }
+    ensures buffer { λ _. ⌜ Put (now (out .entry)) at
+        (sampleBytes (getD pair 0 (pos 0)) ++ sampleBytes (getD pair 1 (pos 0))) (now (out .exit)) ⌝ }
 {
     samples::put_sample(out, at, pair[0]);
     samples::put_sample(out, at + 2, pair[1]);

@@ -246,7 +246,8 @@ pub fn mono_block(
     to: usize,
 ) -> Channel
     requires { ⌜ (frame < length (now sound)) × (length (now sound) ≤ 536870912) × (groups ≤ 1023)
-        × (to + 4 * groups + 4 ≤ length (now out)) × (from .state .index < 89) × (from .chased + 8 * groups < 4294967296) × IsSteps (now table) ⌝ }
+        × (to + 4 * groups + 4 ≤ length (now out)) × (from .state .index < 89)
+        × (from .chased + 8 * groups < 4294967296) × IsSteps (now table) ⌝ }
     ensures ran { λ r. ⌜ RanBlock from (8 * groups) (length (now (sound .entry)) - frame)
         (monosFrom (now (sound .entry)) frame (8 * groups + 1)) r (now (out .entry)) to (now (out .exit)) ⌝ }
 {

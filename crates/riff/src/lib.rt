@@ -305,7 +305,8 @@ pub fn chunks(file: &[u8]) -> Walked
 pub fn part<'a>(file: &'a [u8], spot: Spot, absent: &'a [u8]) -> &'a [u8]
     ensures part { λ r. ⌜ now r ≡ partOf (now (file .entry)) spot (now (absent .entry)) ⌝ }
     ensures lent { λ r. ⌜ r .ptr .0 ≡ bySpot spot (file .entry .ptr .0) (absent .entry .ptr .0) ⌝ }
-    ensures place { λ r. ⌜ r .ptr .1 ≡ bySpot spot (file .entry .ptr .1 + min (startOf spot) (length (now (file .entry)))) (absent .entry .ptr .1) ⌝ }
+    ensures place { λ r. ⌜ r .ptr .1 ≡ bySpot spot (file .entry .ptr .1 + min (startOf spot) (length (now (file .entry))))
+        (absent .entry .ptr .1) ⌝ }
 {
     match spot {
         Spot::At(place) => little::bytes_from(file, place.start, place.size),

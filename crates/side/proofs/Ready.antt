@@ -14,7 +14,7 @@ use Rattle.writer.specs.File.{sizeOf}
 use Rattle.writer.proofs.Demands.{accepted}
 use Rattle.side.specs.Side.{Song, isSideFile, songsIn, isListed}
 use Rattle.side.specs.Adding.{newRecord, newSound, newFile}
-use Rattle.side.specs.Demands.{Sent, answerTo, fileWith, songFrom, Grown, Grows, AllSuitable, isSent, OnceEach, AllPlaced}
+use Rattle.side.specs.Demands.{Sent, answerTo, fileWith, songFrom, Grown, Grows, AllSuitable, isSent, OnceEach, AllFit}
 use Rattle.side.proofs.Growing.{songs-count}
 use Rattle.side.proofs.Answers.{Taking, taking-added}
 use Rattle.side.proofs.Sides.{standing}
@@ -50,7 +50,7 @@ pub record Ready (s : List ℕ) (xs : List Sent) : Type 0 where
   pub suited : AllSuitable (fileFormat s) xs
   pub once : OnceEach xs
   pub fresh : NoneListed (songsIn s) xs
-  pub placed : AllPlaced (fileFormat s) (length (songsIn s)) (fileFrames s) xs
+  pub placed : AllFit (fileFormat s) (length (songsIn s)) (fileFrames s) xs
 
 -- the first is taken
 module _ (s : List ℕ) (x : Sent) (xs : List Sent) (k : Ready s (x ∷ xs)) where
@@ -58,7 +58,7 @@ module _ (s : List ℕ) (x : Sent) (xs : List Sent) (k : Ready s (x ∷ xs)) whe
   new = fileWith s x
 
   first-taken : Taking s x
-  unfolding AllSuitable NoneListed AllPlaced
+  unfolding AllSuitable NoneListed AllFit
   first-taken =
       let f = k .suited .0 in
       let c = songs-count (standing s (k .side)) in
@@ -73,7 +73,7 @@ module _ (s : List ℕ) (x : Sent) (xs : List Sent) (k : Ready s (x ∷ xs)) whe
       }
 
   pub first-written : answerTo s x ≡ Bytes (sizeOf new)
-  unfolding newFile AllPlaced
+  unfolding newFile AllFit
   first-written =
       let h = first-taken in
       let l = new-long h in
@@ -88,7 +88,7 @@ module _ (s : List ℕ) (x : Sent) (xs : List Sent) (k : Ready s (x ∷ xs)) whe
 
   -- and its file is ready for the others
   pub next-ready : Ready new xs
-  unfolding AllSuitable OnceEach NoneListed AllPlaced
+  unfolding AllSuitable OnceEach NoneListed AllFit
   next-ready =
       let g = first-grown in
       record {
@@ -99,5 +99,5 @@ module _ (s : List ℕ) (x : Sent) (xs : List Sent) (k : Ready s (x ∷ xs)) whe
         fresh =
             subst (λ (ys : List Song). NoneListed ys xs) (sym (g .songs))
             (none-behind (songsIn s) (songFrom (fileFrames s) x) xs (k .fresh .1) (k .once .0));
-        placed = subst (λ (a : Type 0). a) (sym (λ i. AllPlaced (g .format i) (songs-grown s x g i) (g .frames i) xs)) (k .placed .1);
+        placed = subst (λ (a : Type 0). a) (sym (λ i. AllFit (g .format i) (songs-grown s x g i) (g .frames i) xs)) (k .placed .1);
       }

@@ -12,7 +12,7 @@ use Rattle.rules.specs.declared.Record.{Record}
 use Rattle.writer.specs.declared.Written.{Written}
 use Rattle.writer.specs.declared.Written.the-variants.{Bytes, Refused}
 use Rattle.side.specs.Side.{Song, cueList, playList, tiled, songsHeld, isSideFile, songsIn, isListed, listedSound}
-use Rattle.side.specs.Demands.{Sent, answerTo, fileWith, songFrom, sideAfter, addAll, inRow, Grown, Grows, AllPlaced, AllBytewise, Keeps, NoneLost, AllAdded, StillListed, SentAgain, SentTwice}
+use Rattle.side.specs.Demands.{Sent, answerTo, fileWith, songFrom, sideAfter, addAll, inRow, Grown, Grows, AllFit, AllBytewise, Keeps, NoneLost, AllAdded, StillListed, SentAgain, SentTwice}
 use Rattle.side.proofs.Songs.{side-tiled}
 use Rattle.side.proofs.Growing.{Standing, counts-same, songs-count}
 use Rattle.side.proofs.Answers.{added-says}
@@ -138,6 +138,6 @@ all-added s xs b e n f o p =
       suited = f;
       once = o;
       fresh = subst (λ (ys : List Song). NoneListed ys xs) (sym n) (none-first xs);
-      placed = subst (λ (a : Type 0). a) (sym (λ i. AllPlaced (fileFormat s) (c i) (z i) xs)) p;
+      placed = subst (λ (a : Type 0). a) (sym (λ i. AllFit (fileFormat s) (c i) (z i) xs)) p;
     }) in
     record { side = h .side; format = h .format; songs = h .songs ∙ (λ i. n i ++ inRow (z i) xs) }

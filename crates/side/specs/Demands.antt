@@ -150,16 +150,16 @@ OnceEach (x ∷ xs) = (isSent (x .number) xs ≡ false) × OnceEach xs
 
 -- there is place for x behind n songs that end at a frame: they are fewer than 64, the frames with it are within its own limit, and
 -- the file with it is within the limit of files and its own room
-pub record Placed (f : Format) (n at : ℕ) (x : Sent) : Type 0 where
+pub record FitsBehind (f : Format) (n at : ℕ) (x : Sent) : Type 0 where
   pub songs : n < 64
   pub frames : at + fileFrames (x .file) ≤ x .limit .0
   pub size : sideSize f (n + 1) (at + fileFrames (x .file)) ≤ fileLimit
   pub lent : sideSize f (n + 1) (at + fileFrames (x .file)) ≤ x .room
 
 -- so it is for each, behind those before it
-unfoldable pub AllPlaced : Format → ℕ → ℕ → List Sent → Type 0
-AllPlaced f n at [] = Unit {0}
-AllPlaced f n at (x ∷ xs) = Placed f n at x × AllPlaced f (n + 1) (at + fileFrames (x .file)) xs
+unfoldable pub AllFit : Format → ℕ → ℕ → List Sent → Type 0
+AllFit f n at [] = Unit {0}
+AllFit f n at (x ∷ xs) = FitsBehind f n at x × AllFit f (n + 1) (at + fileFrames (x .file)) xs
 
 -- an empty side s then has exactly those songs, in that order
 pub record Complete (s t : List ℕ) (xs : List Sent) : Type 0 where
@@ -170,7 +170,7 @@ pub record Complete (s t : List ℕ) (xs : List Sent) : Type 0 where
 unfoldable pub AllAdded : Type 0
 AllAdded =
     (s : List ℕ) (xs : List Sent) → T (areBytes s) → isSideFile s ≡ true → songsIn s ≡ []
-    → AllSuitable (fileFormat s) xs → OnceEach xs → AllPlaced (fileFormat s) 0 0 xs → Complete s (addAll s xs) xs
+    → AllSuitable (fileFormat s) xs → OnceEach xs → AllFit (fileFormat s) 0 0 xs → Complete s (addAll s xs) xs
 
 -- whatever is sent, however often and in whatever order: the songs that a side s has stay on it, first, in order and unchanged
 pub record Keeps (s t : List ℕ) : Type 0 where

@@ -394,7 +394,8 @@ pub fn cues_size(cues: Cues) -> usize
 // Puts the name, the position and the chunk code of a cue point.
 fn put_name(out: &mut [u8], at: usize, cue: Cue)
     requires { ⌜ at + 12 ≤ length (now out) ⌝ }
-    ensures buffer { λ _. ⌜ Put (now (out .entry)) at (bytesOf 4 (cue .name .0) ++ (bytesOf 4 (cue .position .0) ++ codeBytes Data)) (now (out .exit)) ⌝ }
+    ensures buffer { λ _. ⌜ Put (now (out .entry)) at
+        (bytesOf 4 (cue .name .0) ++ (bytesOf 4 (cue .position .0) ++ codeBytes Data)) (now (out .exit)) ⌝ }
 {
     little::put_u32(out, at, cue.name.0);
     little::put_u32(out, at + 4, cue.position.0);

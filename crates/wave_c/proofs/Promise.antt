@@ -145,14 +145,13 @@ c-add s t number limit d f g =
 -- ---- one answer and one buffer
 pub one-each : OneEach
 unfolding OneEach
-one-each =
-    (
-      λ s d r r′ e e′ p q. (p .answer ∙ sym (q .answer), p .buffer ∙ sym (q .buffer)),
-      λ s d r r′ e e′ p q. (p .answer ∙ sym (q .answer), p .buffer ∙ sym (q .buffer)),
-      λ w s d r r′ e e′ p q. (p .answer ∙ sym (q .answer), p .buffer ∙ sym (q .buffer)),
-      λ s d r r′ e e′ p q. (p .answer ∙ sym (q .answer), p .buffer ∙ sym (q .buffer)),
-      λ s k d r r′ e e′ p q. (p .answer ∙ sym (q .answer), p .buffer ∙ sym (q .buffer)),
-      λ s c a d r r′ e e′ p q. (p .answer ∙ sym (q .answer), p .buffer ∙ sym (q .buffer)),
-      λ channels rate d r r′ e e′ p q. (p .answer ∙ sym (q .answer), p .buffer ∙ sym (q .buffer)),
-      λ s t number limit d r r′ e e′ p q. (p .answer ∙ sym (q .answer), p .buffer ∙ sym (q .buffer)),
-    )
+one-each = (
+  λ s d r r′ e e′ p q. (p .answer ∙ sym (q .answer), p .buffer ∙ sym (q .buffer)),
+  λ s d r r′ e e′ p q. (p .answer ∙ sym (q .answer), p .buffer ∙ sym (q .buffer)),
+  λ w s d r r′ e e′ p q. (p .answer ∙ sym (q .answer), p .buffer ∙ sym (q .buffer)),
+  λ s d r r′ e e′ p q. (p .answer ∙ sym (q .answer), p .buffer ∙ sym (q .buffer)),
+  λ s k d r r′ e e′ p q. (p .answer ∙ sym (q .answer), p .buffer ∙ sym (q .buffer)),
+  λ s c a d r r′ e e′ p q. (p .answer ∙ sym (q .answer), p .buffer ∙ sym (q .buffer)),
+  λ channels rate d r r′ e e′ p q. (p .answer ∙ sym (q .answer), p .buffer ∙ sym (q .buffer)),
+  λ s t number limit d r r′ e e′ p q. (p .answer ∙ sym (q .answer), p .buffer ∙ sym (q .buffer)),
+)

@@ -14,7 +14,7 @@ use Rattle.tables.specs.Plays.{noPlay}
 use Rattle.tables.proofs.Back.{entries-kept}
 use Rattle.tables.proofs.Lengths.{entries-long, entry-from}
 use Rattle.rules.specs.declared.Record.{Record}
-use Rattle.words.specs.Words.{headWords, cueWords, playWords, recordWords, word, formatFrom, cueFrom, cuesFrom, playFrom, playsFrom, recordFrom}
+use Rattle.words.specs.Words.{headWords, cueWords, playWords, recordWords, word, formatFrom, cueFrom, cuesFrom, playFrom, entriesFrom, recordFrom}
 use Rattle.words.specs.Demands.{Roomy, Long, WordsBack}
 use Rattle.words.proofs.Laws.{cue-long, play-long, tables-long}
 
@@ -84,11 +84,11 @@ module _ (m : Record) (rest : List ℕ) (r : Roomy m) where
       ap (λ (w : List ℕ). cueFrom w (9 + 3 * k)) by-cues
       ∙ entry-back noCue cueWords cueFrom cue-long cue-here (λ c u. refl) (headWords m) (plays ++ rest) (m .cues .list) k (omega (arith, r .cues)))
 
-  plays-said : playsFrom (recordWords m ++ rest) 64 ≡ m .playlist .list
-  unfolding playsFrom
+  plays-said : entriesFrom (recordWords m ++ rest) 64 ≡ m .playlist .list
+  unfolding entriesFrom
   plays-said =
       let n : length (headWords m ++ cues) ≡ 201 = omega (arith, length-append (headWords m) cues, entries-long cueWords 3 cue-long (m .cues .list), r .cues) in
-      list-back noPlay playWords playFrom play-long play-here (λ p u. refl) (playsFrom (recordWords m ++ rest)) (λ k. playFrom (recordWords m ++ rest) (201 + 3 * k))
+      list-back noPlay playWords playFrom play-long play-here (λ p u. refl) (entriesFrom (recordWords m ++ rest)) (λ k. playFrom (recordWords m ++ rest) (201 + 3 * k))
       (m .playlist .list) (λ k. refl) refl (r .plays)
       (λ k h.
       ap (λ (w : List ℕ). playFrom w (201 + 3 * k)) by-plays

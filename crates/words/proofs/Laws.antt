@@ -24,7 +24,7 @@ use Rattle.tables.proofs.Entries.{Listed, list-next, list-ends}
 use Rattle.tables.proofs.Putting.{Entered, entries-begin, entry-room, entry-next, entries-end, array-long}
 use Rattle.tables.proofs.Lengths.{entries-long}
 use Rattle.rules.specs.declared.Record.{Record}
-use Rattle.words.specs.Words.{headWords, cueWords, playWords, recordWords, word, fieldsFit, cueFrom, cuesFrom, playFrom, playsFrom, formatFrom, recordFrom}
+use Rattle.words.specs.Words.{headWords, cueWords, playWords, recordWords, word, fieldsFit, cueFrom, cuesFrom, playFrom, entriesFrom, formatFrom, recordFrom}
 
 -- ---- the fields of 16 bits
 abbrev fields : List ℕ → List ℕ
@@ -62,14 +62,14 @@ module _ (w : List ℕ) where
   unfolding cuesFrom
   cues-begin e = record { upto = omega arith; more = λ k. refl; same = ap (λ (c : Cues). c .list) e }
 
-  pub plays-begin : {p : Playlist} → p ≡ noPlays → Listed (playsFrom w) (λ k. playFrom w (201 + 3 * k)) 64 0 (p .list)
-  unfolding playsFrom
+  pub plays-begin : {p : Playlist} → p ≡ noPlays → Listed (entriesFrom w) (λ k. playFrom w (201 + 3 * k)) 64 0 (p .list)
+  unfolding entriesFrom
   plays-begin e = record { upto = omega arith; more = λ k. refl; same = ap (λ (p : Playlist). p .list) e }
 
   pub cues-end : {i : ℕ} {entry : ℕ → Cue} {list : List Cue} → Listed (cuesFrom w) entry 64 i list → 64 ≤ i → list ≡ cuesFrom w 64
   cues-end l h = list-ends l h
 
-  pub plays-end : {i : ℕ} {entry : ℕ → Play} {list : List Play} → Listed (playsFrom w) entry 64 i list → 64 ≤ i → list ≡ playsFrom w 64
+  pub plays-end : {i : ℕ} {entry : ℕ → Play} {list : List Play} → Listed (entriesFrom w) entry 64 i list → 64 ≤ i → list ≡ entriesFrom w 64
   plays-end l h = list-ends l h
 
 pub ruleset listing = (cues-begin, plays-begin, list-next, cues-end, plays-end)
@@ -129,7 +129,7 @@ pub format-said : (w : List ℕ) {a b c d e : ℕ} → a ≡ word w 0 → b ≡ 
 unfolding formatFrom
 format-said w f g h i j = simp (f, g, h, i, j)
 
-pub record-said : (w : List ℕ) {f : Format} {c : List Cue} {p : List Play} → f ≡ formatFrom w → c ≡ cuesFrom w 64 → p ≡ playsFrom w 64
+pub record-said : (w : List ℕ) {f : Format} {c : List Cue} {p : List Play} → f ≡ formatFrom w → c ≡ cuesFrom w 64 → p ≡ entriesFrom w 64
     → record {
       format = f;
       frames = record { 0 = word w 6 };

@@ -73,9 +73,9 @@ cuesFrom w zero = replicate 64 noCue
 cuesFrom w (suc n) = set (cuesFrom w n) n (cueFrom w (9 + 3 * n))
 
 -- room for 64 entries, of which the first n are those of w, from word 201 on
-unfoldable pub playsFrom : List ℕ → ℕ → List Play
-playsFrom w zero = replicate 64 noPlay
-playsFrom w (suc n) = set (playsFrom w n) n (playFrom w (201 + 3 * n))
+unfoldable pub entriesFrom : List ℕ → ℕ → List Play
+entriesFrom w zero = replicate 64 noPlay
+entriesFrom w (suc n) = set (entriesFrom w n) n (playFrom w (201 + 3 * n))
 
 unfoldable pub recordFrom : List ℕ → Record
 recordFrom w =
@@ -83,5 +83,5 @@ recordFrom w =
       format = formatFrom w;
       frames = record { 0 = word w 6 };
       cues = record { count = word w 7; list = cuesFrom w 64 };
-      playlist = record { count = word w 8; list = playsFrom w 64 };
+      playlist = record { count = word w 8; list = entriesFrom w 64 };
     }

@@ -16,7 +16,7 @@ ghost use Prim.Native.Nat.{_+_, _*_, _≤_, _<_};
 ghost use lib.ListN.{length};
 ghost use Rattle.little.specs.Writing.{Put, front};
 ghost use Rattle.tables.specs.Bytes.{entryBytes};
-ghost use Rattle.words.specs.Words.{headWords, cueWords, playWords, recordWords, fieldsFit, formatFrom, cueFrom, cuesFrom, playFrom, playsFrom, recordFrom};
+ghost use Rattle.words.specs.Words.{headWords, cueWords, playWords, recordWords, fieldsFit, formatFrom, cueFrom, cuesFrom, playFrom, entriesFrom, recordFrom};
 
 // How many words a record has.
 pub const WORDS: usize = 393;
@@ -198,7 +198,7 @@ fn cues_from(words: &[u32]) -> [Cue; 64]
 // The 64 playlist entries of a record.
 fn plays_from(words: &[u32]) -> [Play; 64]
     requires { ⌜ 393 ≤ length (now words) ⌝ }
-    ensures answer { λ r. ⌜ r ≡ playsFrom (now (words .entry)) 64 ⌝ }
+    ensures answer { λ r. ⌜ r ≡ entriesFrom (now (words .entry)) 64 ⌝ }
 {
     let none = tables::no_plays();
     let mut list = none.list;
