@@ -1,6 +1,5 @@
--- The table of refusal numbers, row by row, and the verdict. Assumes nothing.
+-- The limit, the table of refusal numbers, row by row, and the number of a verdict. Assumes nothing.
 use Prim.Native.Nat.{ℕ}
-use mathlib.Core.Bool.{Bool, true, false}
 use Rattle.units.specs.declared.Refusal.{Refusal}
 use Rattle.units.specs.declared.Refusal.the-variants.{LengthOutOfRange, NotWave, RiffSizeWrong, ChunkPastTheEnd, SecondOfItsKind, DataBeforeFormat, WaveList, FormatOrDataMissing, FormatWrong, NotWholeFrames, FactWrong, CuesWrong, PlaylistWrong, OutputTooSmall, BlockHeaderWrong, SongEmptyOrDifferent, NoPlaceOnSide, AlreadyListed, NotASide, NoSuchBlock}
 use Rattle.units.specs.declared.Verdict.{Verdict}
@@ -57,8 +56,3 @@ numberOf NoSuchBlock = 20
 abbrev pub verdictNumber : Verdict → ℕ
 verdictNumber Accepted = 0
 verdictNumber (Refused r) = numberOf r
-
--- a demand that is met, or the refusal
-abbrev pub demand : Bool → Refusal → Verdict → Verdict
-demand true r v = v
-demand false r v = Refused r
