@@ -84,9 +84,12 @@ module _ (s t : List ℕ) (number : Donation) (limit : Frames) {side song : Read
       → r ≡ addedBy (addVerdict side w song v number limit) (writing (withSong (side .made) number (song .made .frames)) (w ++ v) room)
       → r ≡ adding s t number limit room
   unfolding adding
-  added room e = e ∙ (λ i. addedBy (addVerdict (a i) (b i) (c i) (d i) number limit) (writing (withSong (a i .made) number (c i .made .frames)) (b i ++ d i) room))
+  added room e =
+      e ∙ (λ i. addedBy (addVerdict (a i) (b i) (c i) (d i) number limit)
+      (writing (withSong (a i .made) number (c i .made .frames)) (b i ++ d i) room))
 
-  pub new-held : (r : Written) (old : List ℕ) {z : List ℕ} → z ≡ holding (writtenVerdict r) (fileOf (withSong (side .made) number (song .made .frames)) (w ++ v)) old
+  pub new-held : (r : Written) (old : List ℕ) {z : List ℕ}
+      → z ≡ holding (writtenVerdict r) (fileOf (withSong (side .made) number (song .made .frames)) (w ++ v)) old
       → z ≡ holding (writtenVerdict r) (newFile s t number) old
   unfolding newFile
   new-held r old e = e ∙ (λ i. holding (writtenVerdict r) (fileOf (withSong (a i .made) number (c i .made .frames)) (b i ++ d i)) old)

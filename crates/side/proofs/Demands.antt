@@ -80,7 +80,8 @@ once-listed s x a l b c = by (leb 1 (fileFrames (x .file))) refl
     -- a file with the sound of a listed song has frames
     frames-some : soundIn (x .file) ≡ listed → fileFrames (x .file) < 1 → ⊥
     frames-some e h =
-        let z : fileFormat s .align * fileFrames (x .file) ≡ fileFormat s .align * 0 = ap (λ (n : ℕ). fileFormat s .align * n) (omega arith) in
+        let z : fileFormat s .align * fileFrames (x .file) ≡ fileFormat s .align * 0 =
+        ap (λ (n : ℕ). fileFormat s .align * n) (omega arith) in
         let g = ap length e in
         omega (arith, song-long s a (x .file) b c, sound-some (standing s a) (x .number) l)
 

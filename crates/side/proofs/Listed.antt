@@ -51,7 +51,8 @@ module _ (number : Donation) where
   sound-before [] ys e = absurd (subst T (sym e) tt)
   sound-before (x ∷ xs) ys e = by (eqb (x .number .0) (number .0)) e (sound-before xs ys)
     where
-      by : (b : Bool) → (b || isListed number xs) ≡ true → (isListed number xs ≡ true → listedSound number (xs ++ ys) ≡ listedSound number xs)
+      by : (b : Bool) → (b || isListed number xs) ≡ true
+          → (isListed number xs ≡ true → listedSound number (xs ++ ys) ≡ listedSound number xs)
           → cond b (x .sound) (listedSound number (xs ++ ys)) ≡ cond b (x .sound) (listedSound number xs)
       by true h k = refl
       by false h k = k h
