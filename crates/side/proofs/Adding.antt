@@ -14,7 +14,8 @@ use Rattle.units.specs.declared.Refusal.the-variants.{FormatWrong}
 use Rattle.units.specs.declared.Verdict.{Verdict}
 use Rattle.units.specs.declared.Verdict.the-variants as verdict
 use Rattle.units.specs.Checks.{AllMet}
-use Rattle.formats.specs.Format.{formatRule}
+use Rattle.formats.specs.declared.Format.{Format}
+use Rattle.formats.specs.Format.{formatRule, plainFormat}
 use Rattle.formats.proofs.Taken.{taken-two}
 use Rattle.tables.specs.declared.Cues.{Cues}
 use Rattle.tables.specs.declared.Playlist.{Playlist}
@@ -23,7 +24,7 @@ use Rattle.tables.specs.Plays.{noPlays}
 use Rattle.tables.proofs.BehindRules.{cues-few, plays-few}
 use Rattle.rules.specs.declared.Record.{Record}
 use Rattle.rules.specs.declared.Reading.{Reading}
-use Rattle.rules.specs.Rules.{blank}
+use Rattle.rules.specs.Rules.{blank, bare}
 use Rattle.reader.specs.Content.{reading, soundIn}
 use Rattle.reader.specs.Demands.{Refusing}
 use Rattle.reader.proofs.Demands.{sound-placed, refusing}
@@ -117,19 +118,14 @@ read-plays s e = rw e (read-few s .1)
 pub ruleset file-added = (sound-placed, added, new-held, read-cues, read-plays)
 
 -- ---- an empty side
-pub empty-record : (channels rate : ℕ) {c : Cues} {p : Playlist} → c ≡ noCues → p ≡ noPlays
-    → record {
-      format = record { tag = 1; channels = channels; rate = rate; bits = 16; align = 2 * channels; samples = 1 };
-      frames = record { 0 = 0 };
-      cues = c;
-      playlist = p;
-    } ≡ emptySide channels rate
+pub empty-record : (channels rate : ℕ) {f : Format} {r : Record} → f ≡ plainFormat channels rate 16 → r ≡ bare f (record { 0 = 0 })
+    → r ≡ emptySide channels rate
 unfolding emptySide
-empty-record channels rate e f = simp (e, f)
+empty-record channels rate e g = g ∙ ap (λ (f : Format). bare f (record { 0 = 0 })) e
 
 module _ (channels rate room : ℕ) where
   pub empty-channels : 2 < channels → Refused FormatWrong ≡ writing (emptySide channels rate) [] room
-  unfolding emptySide
+  unfolding emptySide plainFormat
   empty-channels h = by (formatRule (emptySide channels rate .format)) refl
     where
       by : (b : Bool) → formatRule (emptySide channels rate .format) ≡ b → Refused FormatWrong ≡ writing (emptySide channels rate) [] room

@@ -14,7 +14,7 @@ use Rattle.lists.specs.Among.{distinct}
 use Rattle.lists.specs.Every.{every, allBelow}
 use Rattle.lists.proofs.Laws.{and-true}
 use Rattle.units.specs.declared.BytePlace.{BytePlace}
-use Rattle.formats.specs.Format.{shared, pcmRule, formatRule}
+use Rattle.formats.specs.Format.{shared, pcmRule, formatRule, plainFormat}
 use Rattle.formats.specs.Frames.{needsFact}
 use Rattle.formats.proofs.Whole.{long-whole, long-count}
 use Rattle.formats.proofs.Taken.{fact-unneeded}
@@ -44,11 +44,11 @@ use Rattle.side.proofs.Rows.{not-leb}
 
 module _ (channels rate : ℕ) where
   empty-kept : recordKept (emptySide channels rate) ≡ emptySide channels rate
-  unfolding recordKept cuesKept playsKept zeroPast held emptySide
+  unfolding recordKept cuesKept playsKept zeroPast held emptySide plainFormat
   empty-kept = refl
 
   empty-fits : {n : BytePlace} → Writable (emptySide channels rate) n → RecordFits (emptySide channels rate)
-  unfolding emptySide cuesOf cuesIn playsOf playsIn countIn numberAt numberIn held
+  unfolding emptySide plainFormat cuesOf cuesIn playsOf playsIn countIn numberAt numberIn held
   empty-fits k =
       record {
         format = taken-fits (emptySide channels rate .format) (k .format);
@@ -58,7 +58,7 @@ module _ (channels rate : ℕ) where
       }
 
 pub empty-made : EmptyMade
-unfolding EmptyMade emptySide isSide sixteenBit cueList playList tiled songsHeld songsOf
+unfolding EmptyMade emptySide plainFormat isSide sixteenBit cueList playList tiled songsHeld songsOf
 empty-made channels rate room n e =
     let m : Record = emptySide channels rate in
     let fits = empty-fits channels rate (settled-says m [] room (bytes-say m [] room n e) .rules) in
@@ -80,12 +80,12 @@ module _ (channels rate : ℕ) where
   right = leb 1 channels && leb channels 2 && leb 1 rate && leb rate 192000
 
   empty-rule : formatRule (m .format) ≡ right
-  unfolding formatRule shared pcmRule emptySide
+  unfolding formatRule shared pcmRule emptySide plainFormat
   empty-rule =
-      ap (λ (b : Bool). right && (b && true)) (eq-eqb (2 * channels) (channels * 16 / 8) (omega arith)) ∙ and-true right
+      ap (λ (b : Bool). right && (b && true)) (eq-eqb (channels * 16 / 8) (channels * 16 / 8) refl) ∙ and-true right
 
   empty-rules : formatRule (m .format) ≡ true → Writable m (sizeOf [])
-  unfolding emptySide cuesRule playsRule namesIn placesIn held distinct allBelow allPlayable every
+  unfolding emptySide plainFormat cuesRule playsRule namesIn placesIn held distinct allBelow allPlayable every
   empty-rules e =
       record {
         format = e;
@@ -96,7 +96,7 @@ module _ (channels rate : ℕ) where
       }
 
   empty-long : length (fileOf m []) ≡ 44
-  unfolding emptySide
+  unfolding emptySide plainFormat
   empty-long =
       let f : _≡_ {A = ℕ} 0 (cond (needsFact (m .format)) 12 0) = simp (fact-unneeded (m .format) refl) in
       sym (file-size m [] (format-pcm-long (m .format) refl) refl f (cues-none (m .cues) (omega arith)) (plays-none (m .playlist) (omega arith)))

@@ -11,10 +11,10 @@ use Rattle.units.specs.declared.Verdict.{Verdict}
 use Rattle.units.specs.declared.Verdict.the-variants as verdict
 use Rattle.units.specs.Checks.{Check, check, decided, andThen}
 use Rattle.formats.specs.declared.Format.{Format}
-use Rattle.tables.specs.Cues.{noCues}
-use Rattle.tables.specs.Plays.{noPlays}
+use Rattle.formats.specs.Format.{plainFormat}
 use Rattle.tables.specs.More.{cuesWith, playsWith}
 use Rattle.rules.specs.declared.Record.{Record}
+use Rattle.rules.specs.Rules.{bare}
 use Rattle.rules.specs.declared.Reading.{Reading}
 use Rattle.reader.specs.Content.{reading, soundIn}
 use Rattle.writer.specs.declared.Written.{Written}
@@ -94,10 +94,4 @@ adding s t number limit room =
 
 -- ---- an empty side: 16-bit PCM, no frame, no cue and no entry
 unfoldable pub emptySide : ℕ → ℕ → Record
-emptySide channels rate =
-    record {
-      format = record { tag = 1; channels = channels; rate = rate; bits = 16; align = 2 * channels; samples = 1 };
-      frames = record { 0 = 0 };
-      cues = noCues;
-      playlist = noPlays;
-    }
+emptySide channels rate = bare (plainFormat channels rate 16) (record { 0 = 0 })

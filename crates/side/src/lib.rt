@@ -348,20 +348,7 @@ fn empty_record(channels: u16, rate: u32) -> Record
     requires { ⌜ channels ≤ 2 ⌝ }
     ensures answer { λ r. ⌜ r ≡ emptySide channels rate ⌝ }
 {
-    let format = Format {
-        tag: formats::PCM,
-        channels: channels,
-        rate: rate,
-        bits: 16,
-        align: 2 * channels,
-        samples: 1,
-    };
-    Record {
-        format: format,
-        frames: Frames(0),
-        cues: tables::no_cues(),
-        playlist: tables::no_plays(),
-    }
+    rules::bare(formats::plain(channels, rate, 16), Frames(0))
 }
 
 // Writes an empty side of some channels and a rate, from the start of a lent buffer.
