@@ -3,18 +3,18 @@
 use mathlib.Core.Path.{_≡_, refl, sym, ap, _∙_}
 use mathlib.Core.Bool.{Bool, true, false, _&&_}
 use mathlib.Core.List.{List}
-use Prim.Native.Nat.{ℕ, _+_, _-_, _*_, _/_, _%_, _≤_}
+use Prim.Native.Nat.{ℕ, _*_, _/_, _%_, _≤_}
 use native.Mathlib.Nat.{mul-div-cancel, mul-mod-left, zero-mul}
 use native.Mathlib.Omega.{arith}
 use lib.IntN.{ℤ}
 use lib.ListN.{length}
-use borrow.Author.Tests.{le-leb, eq-eqb, ne-eqb}
+use borrow.Author.Tests.{eq-eqb, ne-eqb}
 use Rattle.little.proofs.Tests.{tests}
 use Rattle.lists.specs.Among.{distinct}
 use Rattle.lists.specs.Every.{every, allBelow}
 use Rattle.units.specs.declared.BytePlace.{BytePlace}
 use Rattle.units.specs.declared.Frames.{Frames}
-use Rattle.formats.specs.Format.{imaSamples, shared, blocked, imaRule, formatRule, codable, imaStored, imaFormat}
+use Rattle.formats.specs.Format.{imaSamples, shared, blocked, imaRule, formatRule, imaStored, imaFormat}
 use Rattle.formats.specs.Frames.{wholeBlocks, blocksIn, countFits, framesRule}
 use Rattle.formats.proofs.Counts.{count-empty, count-is, frames-counted}
 use Rattle.formats.proofs.Making.{Codable, codable-says, stored-none, stored-per}

@@ -8,7 +8,6 @@ use lib.IntN.{ℤ}
 use lib.ListN.{length, take, drop}
 use Rattle.units.specs.declared.Frames as units
 use Rattle.units.specs.Checks.{numberOr}
-use Rattle.formats.specs.declared.Format.{Format}
 use Rattle.formats.specs.Frames.{needsFact}
 use Rattle.samples.specs.Sound.{samplesIn, eight}
 use Rattle.reader.specs.Content.{reading, soundIn, fileFormat, fileFrames}

@@ -8,7 +8,7 @@ use Rattle.little.specs.Writing.{holding}
 use Rattle.little.proofs.Promise.{one-each}
 use Rattle.encode.specs.declared.Encoded.{Encoded}
 use Rattle.encode.specs.Encoding.{encodedBytes, encodeVerdict}
-use Rattle.encode.specs.Answer.{codedOf, encoding, encodedVerdict, encodedNumber}
+use Rattle.encode.specs.Answer.{encoding, encodedVerdict, encodedNumber}
 use Rattle.encode.specs.Demands.{EncodeNumbered}
 use Rattle.encode.specs.Promise.{EncodePromise, OneEncoding}
 use Rattle.encode.proofs.Demands.{accepted, numbered}

@@ -10,7 +10,6 @@ use mir.Val.{Fits}
 use borrow.Author.Tests.{leb-true, eqb-true, le-leb, not-true, not-false}
 use Rattle.little.proofs.Tests.{tests}
 use Rattle.lists.proofs.Laws.{and-both}
-use Rattle.formats.specs.declared.Format.{Format}
 use Rattle.formats.specs.Format.{imaSamples, msSamples, plainFormat, codable, imaStored, imaFormat}
 
 -- ---- samples per block

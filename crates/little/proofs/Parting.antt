@@ -1,6 +1,6 @@
 -- A part of what is lent that may pass its end, and where it stands, in the code's three cases. Assumes nothing.
 use mathlib.Core.Path.{_≡_, sym, ap, _∙_}
-use mathlib.Core.List.{List, []}
+use mathlib.Core.List.{List}
 use Prim.Native.Nat.{ℕ, _+_, _-_, _≤_, _<_, min}
 use native.Mathlib.Nat.{add-sub-cancel-left, sub-self}
 use native.Mathlib.Omega.{arith}

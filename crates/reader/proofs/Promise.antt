@@ -1,7 +1,7 @@
 -- The promises of reading, from the clauses of the contracts; and that they leave one answer. Assumes nothing.
 use mathlib.Core.Path.{_≡_, sym, ap, _∙_}
 use mathlib.Core.List.{List}
-use Prim.Native.Nat.{ℕ, _+_}
+use Prim.Native.Nat.{ℕ}
 use Rattle.units.specs.Refusals.{verdictNumber}
 use Rattle.rules.specs.declared.Reading.{Reading}
 use Rattle.reader.specs.Content.{reading}

@@ -3,7 +3,6 @@ use mathlib.Core.Path.{_≡_, refl, sym, ap, _∙_, subst}
 use mathlib.Core.Bool.{Bool, true, false, cond}
 use mathlib.Core.List.{List, []}
 use Prim.Native.Nat.{ℕ, zero, suc, _+_, _≤_, min}
-use native.Mathlib.Nat.{add-zero}
 use native.Mathlib.Omega.{arith}
 use lib.Dec.{ltb}
 use lib.ListN.{length}
@@ -20,7 +19,7 @@ use Rattle.riff.specs.declared.Spot.the-variants.{At, Missing}
 use Rattle.riff.specs.declared.Directory.{Directory}
 use Rattle.riff.specs.declared.Walked.{Walked}
 use Rattle.riff.specs.declared.Walked.the-variants.{Whole, Stopped}
-use Rattle.riff.specs.Chunks.{headVerdict, nextAt, placed, keep, chunkAt}
+use Rattle.riff.specs.Chunks.{headVerdict, keep, chunkAt}
 use Rattle.riff.specs.Walk.{nothingYet, stepThen, stepsFrom, stepsOf, gather, walkOf, afterHead, directoryOf, bySpot, startOf}
 use Rattle.riff.proofs.Walking.{met}
 use Rattle.reader.specs.Content.{reading, spotBy, soundSpot, soundStart}

@@ -4,9 +4,8 @@ use mathlib.Core.List.{List, []}
 use Prim.Native.Nat.{ℕ, _+_, _≤_, min}
 use native.Mathlib.Omega.{arith}
 use lib.Dec.{T}
-use lib.ListN.{length, take, drop, drop-of-length-le, length-take, length-drop}
+use lib.ListN.{length, take, drop, length-take, length-drop}
 use lib.Pow.{areBytes}
-use lib.Seq.{take-nil, take-all}
 use Rattle.little.proofs.Reading.{taken-bytes, dropped-bytes}
 use Rattle.riff.specs.declared.Spot.{Spot}
 use Rattle.riff.specs.declared.Spot.the-variants.{At, Missing}

@@ -2,7 +2,7 @@
 use mathlib.Core.Path.{_≡_, refl, sym, ap, _∙_}
 use mathlib.Core.Bool.{Bool, true, false}
 use mathlib.Core.List.{List, [], _++_}
-use Prim.Native.Nat.{ℕ, _+_, _*_, _≤_, _<_}
+use Prim.Native.Nat.{ℕ, _+_, _≤_, _<_}
 use native.Mathlib.Omega.{arith}
 use mir.Syntax.{w32}
 use mir.Val.{Fits}
@@ -17,10 +17,6 @@ use Rattle.units.specs.Checks.{AllMet}
 use Rattle.formats.specs.declared.Format.{Format}
 use Rattle.formats.specs.Format.{formatRule, plainFormat}
 use Rattle.formats.proofs.Taken.{taken-two}
-use Rattle.tables.specs.declared.Cues.{Cues}
-use Rattle.tables.specs.declared.Playlist.{Playlist}
-use Rattle.tables.specs.Cues.{noCues}
-use Rattle.tables.specs.Plays.{noPlays}
 use Rattle.tables.proofs.BehindRules.{cues-few, plays-few}
 use Rattle.rules.specs.declared.Record.{Record}
 use Rattle.rules.specs.declared.Reading.{Reading}

@@ -9,10 +9,9 @@ use lib.ListN.{length, take, getD, length-take, List·getD-map}
 use lib.Seq.{length-take-le, getD-take}
 use mir.Syntax.{w32, w64}
 use mir.Val.{Fits}
-use mir.Facts.{fits-widen}
 use borrow.Author.Tests.{le-leb, lt-leb, lt-ltb, le-ltb, not-true, not-false}
 use Rattle.lists.specs.Among.{indexIn, has, distinct}
-use Rattle.lists.specs.Every.{every, allBelow}
+use Rattle.lists.specs.Every.{allBelow}
 use Rattle.lists.proofs.Laws.{Holding, hold-begins, hold-ends, hold-fails, hold-next}
 use Rattle.units.specs.declared.Frames.{Frames}
 use Rattle.tables.specs.declared.Cues.{Cues}

@@ -6,8 +6,6 @@ use native.Mathlib.Nat.{add-zero}
 use native.Mathlib.Omega.{arith}
 use lib.ListN.{length, take, drop, getD, set, replicate, length-append}
 use lib.Seq.{drop-append-add, drop-append-le, getD-drop, take-all}
-use Rattle.tables.specs.declared.Cue.{Cue}
-use Rattle.tables.specs.declared.Play.{Play}
 use Rattle.tables.specs.Bytes.{entryBytes}
 use Rattle.tables.specs.Cues.{noCue}
 use Rattle.tables.specs.Plays.{noPlay}

@@ -1,9 +1,9 @@
 -- Demand 2 of written files, for every record, sound and room. `proofs/Demands.antt` proves each. Assumes nothing.
 use Prim.Native.Nat.{ℕ, _≤_, _<_}
 use mathlib.Core.Path.{_≡_}
-use mathlib.Core.Bool.{true, false, not, cond}
+use mathlib.Core.Bool.{true, false, not}
 use mathlib.Core.List.{List}
-use lib.Dec.{T, leb}
+use lib.Dec.{T}
 use lib.ListN.{length}
 use lib.Pow.{areBytes}
 use Rattle.units.specs.Refusals.{fileLimit}
@@ -12,10 +12,8 @@ use Rattle.units.specs.declared.Refusal.{Refusal}
 use Rattle.units.specs.declared.Refusal.the-variants.{LengthOutOfRange, FormatWrong, FactWrong, OutputTooSmall}
 use Rattle.units.specs.declared.Verdict.the-variants as verdict
 use Rattle.formats.specs.Format.{formatRule}
-use Rattle.formats.specs.Frames.{wholeBlocks, needsFact, framesRule}
+use Rattle.formats.specs.Frames.{needsFact}
 use Rattle.formats.specs.Bytes.{saidFormat}
-use Rattle.tables.specs.Cues.{cuesRule}
-use Rattle.tables.specs.Plays.{playsRule}
 use Rattle.rules.specs.declared.Record.{Record}
 use Rattle.rules.specs.Written.{recordKept, RecordFits}
 use Rattle.reader.specs.Content.{reading, soundIn}
