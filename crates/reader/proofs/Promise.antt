@@ -19,5 +19,5 @@ one-reading s r r′ p q = p .answer ∙ sym (q .answer)
 
 pub one-sound : OneSound
 unfolding OneSound
-one-sound s lender from w w′ by by′ at at′ p q =
+one-sound A s lender from w w′ by by′ at at′ p q =
     (p .part ∙ sym (q .part), p .lent ∙ sym (q .lent), p .place ∙ sym (q .place))

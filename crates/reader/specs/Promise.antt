@@ -24,5 +24,5 @@ pub record SoundPromise {A : Type 0} (s : List ℕ) (lender : A) (from : ℕ) (w
 
 unfoldable pub OneSound : Type 1
 OneSound =
-    {A : Type 0} (s : List ℕ) (lender : A) (from : ℕ) (w w′ : List ℕ) (by by′ : A) (at at′ : ℕ)
+    (A : Type 0) (s : List ℕ) (lender : A) (from : ℕ) (w w′ : List ℕ) (by by′ : A) (at at′ : ℕ)
     → SoundPromise s lender from w by at → SoundPromise s lender from w′ by′ at′ → (w ≡ w′) × (by ≡ by′) × (at ≡ at′)
