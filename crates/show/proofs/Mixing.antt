@@ -1,7 +1,7 @@
 -- A number mixed of bytes, as a loop makes it: what is left of them, mixed with what was made, is the whole. Assumes nothing.
 use mathlib.Core.Path.{_≡_, refl, sym, ap, _∙_}
 use mathlib.Core.List.{List}
-use Prim.Native.Nat.{ℕ, _+_, _*_, _%_, _≤_, _<_}
+use Prim.Native.Nat.{ℕ, _+_, _≤_, _<_}
 use native.Mathlib.Omega.{arith}
 use lib.ListN.{length, drop, getD, drop-of-length-le}
 use Rattle.little.proofs.Filling.{drop-next}
@@ -30,9 +30,5 @@ module _ {values : List ℕ} where
     pub mixing-ends : length values ≤ i → mix ≡ mixedFrom 0 values
     unfolding mixedFrom
     mixing-ends h = sym (ap (mixedFrom mix) (drop-of-length-le values h)) ∙ w .same
-
-pub mixed-so : (before value : ℕ) → (before * 31 + value % 65536) % 1000003 ≡ mixedWith before value
-unfolding mixedWith
-mixed-so before value = refl
 
 pub ruleset mixing = (mixing-begins, mixing-next, mixing-ends)

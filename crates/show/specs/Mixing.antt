@@ -2,7 +2,7 @@
 use Prim.Native.Nat.{ℕ, _+_, _*_, _%_}
 use mathlib.Core.List.{List, [], _∷_}
 
-unfoldable pub mixedWith : ℕ → ℕ → ℕ
+abbrev pub mixedWith : ℕ → ℕ → ℕ
 mixedWith before value = (before * 31 + value % 65536) % 1000003
 
 unfoldable pub mixedFrom : ℕ → List ℕ → ℕ
