@@ -3,8 +3,8 @@
 use mathlib.Core.Path.{sym, _∙_}
 use mathlib.Core.List.{List, [], _∷_, map}
 use Prim.Native.Nat.{ℕ, zero, suc, _<_}
-use native.Mathlib.Omega.{arith}
 use lib.ListN.{getD, length-map}
+use borrow.Author.Needs.{needs}
 use mir.Val.{Val}
 use base.Fml.{Fml}
 use denote.Shadow.{shadow}
@@ -43,10 +43,9 @@ cues-typed c vs s =
     let l = s .1 .1 .1 .0 in
     let e =
     each-keeps (cue.the-field .into) (cue.the-field .row .own) (Three Cue (λ x. x .name .0) (λ x. x .position .0) (λ x. x .place .0)) noCue
-    (omega arith, omega arith, omega arith)
-    (λ x u h. (h .1 .1 .0 .1 .1 .0 .1, h .1 .1 .1 .0 .1 .1 .0 .1, h .1 .1 .1 .1 .0 .1 .1 .0 .1)) (c .list) (l .0) (l .1 .1) in
+    (search needs) (λ x u h. search needs) (c .list) (l .0) (l .1 .1) in
     record {
-      count = s .1 .1 .0 .1;
+      count = search needs;
       room = sym (length-map (c .list) (cue.the-field .into)) ∙ l .1 .0 .1;
       name = λ i. e i .0;
       position = λ i. e i .1;
@@ -58,10 +57,9 @@ plays-typed p vs s =
     let l = s .1 .1 .1 .0 in
     let e =
     each-keeps (play.the-field .into) (play.the-field .row .own) (Three Play (λ x. x .name .0) (λ x. x .length .0) (λ x. x .times)) noPlay
-    (omega arith, omega arith, omega arith)
-    (λ x u h. (h .1 .1 .0 .1 .1 .0 .1, h .1 .1 .1 .0 .1 .1 .0 .1, h .1 .1 .1 .1 .0 .1)) (p .list) (l .0) (l .1 .1) in
+    (search needs) (λ x u h. search needs) (p .list) (l .0) (l .1 .1) in
     record {
-      count = s .1 .1 .0 .1;
+      count = search needs;
       room = sym (length-map (p .list) (play.the-field .into)) ∙ l .1 .0 .1;
       name = λ i. e i .0;
       long = λ i. e i .1;
@@ -72,18 +70,9 @@ plays-typed p vs s =
 pub record-typed : (m : Record) (vs : List Val) → Is made.the-row m vs → RecordFits m
 record-typed m vs s =
     let a = s .1 .1 in
-    let f = a .0 .1 .1 in
     record {
-      format =
-          record {
-            tag = f .0 .1;
-            channels = f .1 .0 .1;
-            rate = f .1 .1 .0 .1;
-            bits = f .1 .1 .1 .0 .1;
-            align = f .1 .1 .1 .1 .0 .1;
-            samples = f .1 .1 .1 .1 .1 .0 .1;
-          };
-      frames = a .1 .0 .1 .1 .0 .1;
+      format = search needs;
+      frames = search needs;
       cues = cues-typed (m .cues) _ (a .1 .1 .0);
       plays = plays-typed (m .playlist) _ (a .1 .1 .1 .0);
     }
