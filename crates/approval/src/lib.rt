@@ -9,10 +9,5 @@ ghost use Rattle.approval.specs.Approval.{approvalRecord};
 pub fn record_of(channels: u16, rate: u32, align: u16, frames: Frames) -> Record
     ensures answer { λ r. ⌜ r ≡ approvalRecord channels rate align frames ⌝ }
 {
-    Record {
-        format: formats::ima(channels, rate, align),
-        frames: frames,
-        cues: tables::no_cues(),
-        playlist: tables::no_plays(),
-    }
+    rules::bare(formats::ima(channels, rate, align), frames)
 }

@@ -10,7 +10,6 @@ use Rattle.units.specs.declared.Verdict.{Verdict}
 use Rattle.units.specs.declared.Verdict.the-variants as verdict
 use Rattle.units.specs.Refusals.{fileLimit, verdictNumber}
 use Rattle.units.specs.Checks.{Check, check, decided}
-pub use Rattle.units.specs.Checks.{andThen}
 use Rattle.codes.specs.declared.Code.the-variants as code
 use Rattle.riff.specs.Laying.{Part, Parts, piece, pieceBytes, partBytes, riffBytes, piecesOf, fileBytes}
 use Rattle.formats.specs.declared.Format.{Format}
