@@ -268,12 +268,16 @@ def as_before(folder):
 
 
 def caught(words, folder, number):
-    """Ends a run by a signal while it writes; what it ends with. One that was too quick is started again."""
-    for _ in range(10):
+    """Ends a run by a signal while it writes; what it ends with. One that was too quick is started again.
+
+    A file may be written in a few thousandths of a second: so the look-out does not sleep, and has many tries.
+    """
+    last = time.monotonic() + 180
+    while time.monotonic() < last:
         as_before(folder)
         with start([*HOST, *words], folder) as running:
             while running.poll() is None and not has_begun(folder):
-                time.sleep(0.001)
+                pass
             running.send_signal(number)
             running.communicate(timeout=600)
         if running.returncode != 0:
