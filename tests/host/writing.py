@@ -116,9 +116,13 @@ def no_parts():
 
 
 def calls_in(log):
-    """The calls that strace wrote down, each with the first file that it names, an unfinished one as such."""
+    """The calls that strace wrote down, each with the first file that it names, an unfinished one as such.
+
+    The folder in which a name is looked up is not named by the call.
+    """
     for line in log.splitlines():
-        files = [pathlib.Path(file) for file in re.findall(r'[<"]([^<>"]+)[>"]', line)]
+        named = re.sub(r'AT_FDCWD<[^>]*>', 'AT_FDCWD', line)
+        files = [pathlib.Path(file) for file in re.findall(r'[<"]([^<>"]+)[>"]', named)]
         yield from [(line.split('(')[0], PART if file.match(PART) else file.name) for file in files[:1]]
 
 

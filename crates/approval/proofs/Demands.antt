@@ -22,7 +22,8 @@ use Rattle.ima_code.proofs.Machine.{sixteen-none, sixteen-more}
 use Rattle.ima_code.proofs.Quality.{in-words}
 use Rattle.formats.specs.Format.{imaSamples, codable, imaStored, imaFormat}
 use Rattle.formats.proofs.Making.{Codable, codable-is, stored-per}
-use Rattle.ima_block.specs.Block.{imaFrames, imaHeadersValid}
+use Rattle.codec.specs.Codec.{framesHeard, headersValid}
+use Rattle.ima_block.specs.Block.{ima}
 use Rattle.encode.specs.declared.Coded.{Coded}
 use Rattle.encode.specs.declared.Encoded.the-variants.{Blocks}
 use Rattle.encode.specs.Encoding.{blocksFor, encodedBytes, encodeVerdict}
@@ -58,12 +59,12 @@ module _ (c rate a : ℕ) where
   unfolding blockAt blockOfBytes imaFormat
   block-is w k = refl
 
-  fine-is : (b : List ℕ) → blockValid (imaFormat c rate a) b ≡ imaHeadersValid c b
+  fine-is : (b : List ℕ) → blockValid (imaFormat c rate a) b ≡ headersValid ima c b
   unfolding blockValid imaFormat
   fine-is b = refl
 
-  sound-is : (n : ℕ) (b : List ℕ) → blockFrames (imaFormat c rate a) n b ≡ imaFrames c n b
-  unfolding blockFrames channelSound imaFrames imaFormat
+  sound-is : (n : ℕ) (b : List ℕ) → blockFrames (imaFormat c rate a) n b ≡ framesHeard ima c n b
+  unfolding blockFrames channelSound framesHeard imaFormat
   sound-is n b = refl
 
 module _ (s : List ℤ) (c rate a : ℕ) (v : Codable c a) where
@@ -91,8 +92,8 @@ module _ (s : List ℤ) (c rate a : ℕ) (v : Codable c a) where
         (λ k i l.
         let e : k ≡ k * p / p = sym (mul-div-cancel k (per-some c a)) in
         fine-is c rate a (blockAt format bytes k)
-        ∙ ap (imaHeadersValid c) (block-is c rate a bytes k)
-        ∙ ap (λ (m : ℕ). imaHeadersValid c (blockOfBytes a bytes m)) e
+        ∙ ap (headersValid ima c) (block-is c rate a bytes k)
+        ∙ ap (λ (m : ℕ). headersValid ima c (blockOfBytes a bytes m)) e
         ∙ q .valid (k * p) (begun c a (length s) k (among (omega arith))))
 
     -- frame f of a channel of the whole sound is what is heard of it
@@ -111,8 +112,8 @@ module _ (s : List ℤ) (c rate a : ℕ) (v : Codable c a) where
         (omega arith)
         ∙ ap (λ (xs : List ℤ). getD xs (c * j + ch) (pos 0))
         (sound-is c rate a (imaStored c a) (blockAt format bytes k)
-        ∙ ap (imaFrames c (imaStored c a)) (block-is c rate a bytes k)
-        ∙ ap (λ (m : ℕ). imaFrames c m (blockOfBytes a bytes k)) n)
+        ∙ ap (framesHeard ima c (imaStored c a)) (block-is c rate a bytes k)
+        ∙ ap (λ (m : ℕ). framesHeard ima c m (blockOfBytes a bytes k)) n)
         ∙ q .sounded ch f l h
 
 -- ---- the file

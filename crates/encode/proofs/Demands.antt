@@ -12,14 +12,15 @@ use lib.Seq.{ext-getD, length-take-le, getD-take}
 use borrow.Author.Tests.{lt-ltb, le-leb}
 use Rattle.samples.proofs.Signed.{by-ltb}
 use Rattle.lists.specs.Turns.{values, joined, inTurn}
-use Rattle.lists.proofs.Turns.{Long, values-long, values-at, joined-long, joined-element, turn-element}
+use Rattle.lists.proofs.Turns.{values-long, values-alike, values-at, joined-long, joined-element, turn-element}
 use Rattle.lists.proofs.Laws.{every-all}
 use Rattle.ima_code.specs.declared.ImaState.{ImaState}
 use Rattle.ima_code.specs.Code.{isChased}
 use Rattle.ima_code.specs.Quality.{Sixteen, Faithful, within, atMost}
 use Rattle.ima_code.proofs.Machine.{length-tracked, sixteen-first, sixteen-rest, faithful-at, chased-at}
 use Rattle.formats.specs.Format.{imaSamples}
-use Rattle.ima_block.specs.Block.{channelPart, imaOpened, imaHeard, imaSound, statesIn, imaFrames, imaHeadersValid}
+use Rattle.codec.specs.Codec.{channelStates, channelHeard, framesHeard, headersValid}
+use Rattle.ima_block.specs.Block.{channelPart, imaOpened, ima}
 use Rattle.ima_coder.specs.Part.{chasedPart, countOf}
 use Rattle.units.specs.declared.Verdict.{Verdict}
 use Rattle.units.specs.declared.Verdict.the-variants.{Accepted}
@@ -91,9 +92,9 @@ module _ (c a : ℕ) (s : List ℤ) (ch : ℕ) (w : Codable c a) (z : Sixteen s)
       let e : channelPart c (blockOfBytes a (encodedBytes c a s) k) ch ≡ channelBytes c a s k ch =
       ap (λ (b : List ℕ). channelPart c b ch) (block-back w s k (block-among c a (length s) f h))
       ∙ part-back w s k ch l in
-      ap (λ (b : List ℕ). getD (statesIn b) (f % imaSamples c a) silent) e
-      ∙ ap (λ (ts : List ImaState). getD ts (f % imaSamples c a) silent)
-      (part-heard i (a / (4 * c) - 1) xs (block-sixteen c a s ch k z) (length-block c a s ch k ∙ per-is w))
+      ap (λ (ts : List ImaState). getD ts (f % imaSamples c a) silent)
+      (part-heard c (blockOfBytes a (encodedBytes c a s) k) ch i (a / (4 * c) - 1) xs e
+      (block-sixteen c a s ch k z) (length-block c a s ch k ∙ per-is w))
 
   frame-is : (f : ℕ) → f < length s / c → getD (blockOf c a s ch (f / p)) (f % p) (pos 0) ≡ frameOf c s ch f
   frame-is f h =
@@ -203,8 +204,8 @@ module _ (c a : ℕ) (s : List ℤ) (w : Codable c a) (z : Sixteen s) (k : ℕ) 
   part-is : (ch : ℕ) → ch < c → channelPart c block ch ≡ channelBytes c a s k ch
   part-is ch l = ap (λ (b : List ℕ). channelPart c b ch) (block-back w s k h) ∙ part-back w s k ch l
 
-  headers-valid : imaHeadersValid c block ≡ true
-  unfolding imaHeadersValid channelBytes
+  headers-valid : headersValid ima c block ≡ true
+  unfolding headersValid channelBytes
   headers-valid =
       every-all (λ ch. leb (imaOpened (channelPart c block ch) .index) 88) 0 c
       (λ ch i l.
@@ -214,33 +215,30 @@ module _ (c a : ℕ) (s : List ℤ) (w : Codable c a) (z : Sixteen s) (k : ℕ) 
       ∙ index-back (openIndex c a s ch k) xs (block-sixteen c a s ch k z) (omega (arith, length-block c a s ch k, per-some c a)) in
       le-leb (imaOpened (channelPart c block ch) .index) 88 (omega (arith, open-below c a s ch z k)))
 
-  sound-long : (ch : ℕ) → ch < c → length (imaSound (channelPart c block ch)) ≡ imaSamples c a
-  unfolding imaSound imaHeard statesIn channelBytes
+  sound-long : (ch : ℕ) → ch < c → length (channelHeard ima c block ch) ≡ imaSamples c a
+  unfolding channelHeard channelBytes
   sound-long ch l =
       let i : ℕ = openIndex c a s ch k in
       let xs : List ℤ = blockOf c a s ch k in
-      length-map (statesIn (channelPart c block ch)) (λ t. t .last)
-      ∙ ap (λ (b : List ℕ). length (statesIn b)) (part-is ch l)
-      ∙ ap length (part-heard i (a / (4 * c) - 1) xs (block-sixteen c a s ch k z) (length-block c a s ch k ∙ per-is w))
+      length-map (channelStates ima c block ch) (λ t. t .last)
+      ∙ ap length
+      (part-heard c block ch i (a / (4 * c) - 1) xs (part-is ch l) (block-sixteen c a s ch k z) (length-block c a s ch k ∙ per-is w))
       ∙ tracked-long i xs
       ∙ length-block c a s ch k
 
-  sounds-long : (i n : ℕ) → i + n ≤ c → Long (imaSamples c a) (values (λ ch. imaSound (channelPart c block ch)) i n)
-  unfolding values
-  sounds-long i zero g = tt
-  sounds-long i (suc n) g = (sound-long i (omega arith), sounds-long (suc i) n (omega arith))
-
   put-out : (j ch : ℕ) → j < imaSamples c a → ch < c
-      → getD (imaFrames c (imaSamples c a) block) (c * j + ch) (pos 0) ≡ getD (statesIn (channelPart c block ch)) j silent .last
-  unfolding imaFrames imaSound imaHeard statesIn
+      → getD (framesHeard ima c (imaSamples c a) block) (c * j + ch) (pos 0) ≡ getD (channelStates ima c block ch) j silent .last
+  unfolding framesHeard channelHeard
   put-out j ch g l =
       let p : ℕ = imaSamples c a in
-      let ls : List (List ℤ) = values (λ ch. imaSound (channelPart c block ch)) 0 c in
-      let n : length ls ≡ c = values-long (λ ch. imaSound (channelPart c block ch)) 0 c in
+      let ls : List (List ℤ) = values (channelHeard ima c block) 0 c in
+      let n : length ls ≡ c = values-long (channelHeard ima c block) 0 c in
       ap (λ (m : ℕ). getD (inTurn 1 p ls) (m * j + ch) (pos 0)) (sym n)
-      ∙ turn-element p ls j ch (pos 0) (sounds-long 0 c (omega arith)) g (omega arith)
-      ∙ ap (λ (l : List ℤ). getD l j (pos 0)) (values-at (λ ch. imaSound (channelPart c block ch)) 0 c ch [] l ∙ ap (λ (m : ℕ). imaSound (channelPart c block m)) (zero-add ch))
-      ∙ List·getD-map (λ t. t .last) (statesIn (channelPart c block ch)) j silent
+      ∙ turn-element p ls j ch (pos 0)
+      (values-alike (channelHeard ima c block) p 0 c (λ ch h g. sound-long ch (omega arith))) g (omega arith)
+      ∙ ap (λ (l : List ℤ). getD l j (pos 0))
+      (values-at (channelHeard ima c block) 0 c ch [] l ∙ ap (channelHeard ima c block) (zero-add ch))
+      ∙ List·getD-map (λ t. t .last) (channelStates ima c block ch) j silent
 
 -- ---- the counts
 counted : (c a : ℕ) (s : List ℤ) (ch : ℕ) → Codable c a → Sixteen s → length s % c ≡ 0

@@ -21,7 +21,8 @@ use Rattle.ima_code.specs.Quality.{Sixteen}
 use Rattle.ima_code.proofs.Coding.{code-below}
 use Rattle.ima_code.proofs.Machine.{run-tracks, sixteen-first}
 use Rattle.formats.specs.Format.{imaSamples}
-use Rattle.ima_block.specs.Block.{channelPart, imaOpened, lowFirst, statesIn}
+use Rattle.codec.specs.Codec.{low, high, nibbles, channelStates}
+use Rattle.ima_block.specs.Block.{channelPart, imaOpened, ima}
 use Rattle.ima_coder.specs.Part.{packed, blockHead, codedPart}
 use Rattle.encode.specs.Encoding.{blockOf, openIndex, channelBytes, blockBytes, blocksFor, encodedBytes}
 use Rattle.encode.specs.Demands.{blockOfBytes, trackedPart}
@@ -30,8 +31,8 @@ use Rattle.encode.proofs.Blocks.{per-mono, per-stereo, length-block}
 use Rattle.encode.proofs.Loops.{length-coded, length-mono, length-stereo}
 
 -- ---- codes in bytes, and out of them again
-nibbles-back : (t : ImaState) (xs : List ℤ) (n : ℕ) → length xs ≡ 2 * n → lowFirst (packed (codesOf t xs)) ≡ codesOf t xs
-unfolding codesOf packed lowFirst
+nibbles-back : (t : ImaState) (xs : List ℤ) (n : ℕ) → length xs ≡ 2 * n → nibbles low high (packed (codesOf t xs)) ≡ codesOf t xs
+unfolding codesOf packed nibbles
 nibbles-back t [] n e = refl
 nibbles-back t (x ∷ []) n e = absurd (omega arith)
 nibbles-back t (x ∷ y ∷ xs) zero e = absurd (omega arith)
@@ -61,17 +62,17 @@ unfolding blockHead sampleBytes bytesOf
 behind-head x i r = refl
 
 -- ---- a block of a channel
-pub part-heard : (i g : ℕ) (xs : List ℤ) → Sixteen xs → length xs ≡ 8 * g + 1
-    → statesIn (codedPart i xs) ≡ trackedPart i xs
-unfolding statesIn codedPart trackedPart
-part-heard i g [] s e = absurd (omega arith)
-part-heard i g (x ∷ xs) s e =
+pub part-heard : (c : ℕ) (b : List ℕ) (ch i g : ℕ) (xs : List ℤ) → channelPart c b ch ≡ codedPart i xs → Sixteen xs → length xs ≡ 8 * g + 1
+    → channelStates ima c b ch ≡ trackedPart i xs
+unfolding channelStates codedPart trackedPart
+part-heard c b ch i g [] p s e = absurd (omega arith)
+part-heard c b ch i g (x ∷ xs) p s e =
     let t : ImaState = record { last = x; index = i } in
     let ks : List ℕ = packed (codesOf t xs) in
     let o : imaOpened (blockHead x i ++ ks) ≡ t = opened-back x i ks (sixteen-first s) in
-    let n : lowFirst (drop 4 (blockHead x i ++ ks)) ≡ codesOf t xs =
-    ap lowFirst (behind-head x i ks) ∙ nibbles-back t xs (4 * g) (omega arith) in
-    rw (o, n) (ap (λ (l : List ImaState). t ∷ l) (run-tracks t xs))
+    let n : nibbles low high (drop 4 (blockHead x i ++ ks)) ≡ codesOf t xs =
+    ap (nibbles low high) (behind-head x i ks) ∙ nibbles-back t xs (4 * g) (omega arith) in
+    rw (p, o, n) (ap (λ (l : List ImaState). t ∷ l) (run-tracks t xs))
 
 -- ---- one or two channels
 pub by-channels : {c a : ℕ} (P : ℕ → Type 0) → Codable c a → (c ≡ 1 → P 1) → (c ≡ 2 → P 2) → P c

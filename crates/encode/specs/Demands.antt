@@ -12,7 +12,8 @@ use Rattle.ima_code.specs.Code.{stepAt, isChased}
 use Rattle.ima_code.specs.Machine.{trackedAll}
 use Rattle.ima_code.specs.Quality.{Sixteen, Faithful, atMost}
 use Rattle.formats.specs.Format.{imaSamples, codable}
-use Rattle.ima_block.specs.Block.{channelPart, statesIn, imaFrames, imaHeadersValid}
+use Rattle.codec.specs.Codec.{channelStates, framesHeard, headersValid}
+use Rattle.ima_block.specs.Block.{ima}
 use Rattle.ima_coder.specs.Part.{countOf}
 use Rattle.units.specs.Refusals.{verdictNumber}
 use Rattle.encode.specs.declared.Coded.{Coded}
@@ -31,7 +32,7 @@ blockOfBytes a bytes k = take a (drop (k * a) bytes)
 -- channel ch as decoding has it after frame f: its last sample is what is heard, its index says the next step
 unfoldable pub heardAt : ℕ → ℕ → List ℕ → ℕ → ℕ → ImaState
 heardAt c a bytes ch f =
-    getD (statesIn (channelPart c (blockOfBytes a bytes (f / imaSamples c a)) ch)) (f % imaSamples c a)
+    getD (channelStates ima c (blockOfBytes a bytes (f / imaSamples c a)) ch) (f % imaSamples c a)
     (record { last = pos 0; index = 0 })
 
 -- whether frame f is chased: it does not open a block, and is at least twice the current step away from its
@@ -47,9 +48,9 @@ chasedFrames c a s bytes ch = values (chasedAt c a s bytes ch) 0 (length s / c)
 -- bytes say a sound so well, and the counts of left and right are the numbers of its chased samples
 pub record Heard (s : List ℤ) (c a : ℕ) (bytes : List ℕ) (left right : ℕ) : Type 0 where
   -- decoding takes every block, and puts out what is heard: one sample of each channel in turn
-  pub valid : (f : ℕ) → f < length s / c → imaHeadersValid c (blockOfBytes a bytes (f / imaSamples c a)) ≡ true
+  pub valid : (f : ℕ) → f < length s / c → headersValid ima c (blockOfBytes a bytes (f / imaSamples c a)) ≡ true
   pub sounded : (ch f : ℕ) → ch < c → f < length s / c
-      → getD (imaFrames c (imaSamples c a) (blockOfBytes a bytes (f / imaSamples c a))) (c * (f % imaSamples c a) + ch) (pos 0)
+      → getD (framesHeard ima c (imaSamples c a) (blockOfBytes a bytes (f / imaSamples c a))) (c * (f % imaSamples c a) + ch) (pos 0)
       ≡ heardAt c a bytes ch f .last
   -- in each channel a sample that opens a block is exact
   pub opening : (ch f : ℕ) → ch < c → f < length s / c → f % imaSamples c a ≡ 0

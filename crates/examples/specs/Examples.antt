@@ -36,8 +36,8 @@ unfoldable pub headed : ℕ → List ℤ
 headed i = pos (verdictNumber (wholeVerdict (imaFormat 1 8000 8) 9 (0 ∷ 0 ∷ i ∷ 0 ∷ 0 ∷ 0 ∷ 0 ∷ 0 ∷ []) 9)) ∷ []
 
 -- the sound of data that are a Microsoft block of 8 bytes, which has 4 samples
-unfoldable pub microsoft : List ℕ → List ℤ
-microsoft block =
+unfoldable pub microsoftSound : List ℕ → List ℤ
+microsoftSound block =
     let format : Format = record { tag = 2; channels = 1; rate = 8000; bits = 4; align = 8; samples = msSamples 1 8 } in
     wholeSound format 4 block
 
@@ -63,11 +63,11 @@ examples =
     ∷ record { given = headed 89; printed = pos 15 ∷ [] }
     -- Microsoft 00 10 00 64 00 32 00 1F gives 50, 100, 116, 100
     ∷ record {
-      given = microsoft (0 ∷ 16 ∷ 0 ∷ 100 ∷ 0 ∷ 50 ∷ 0 ∷ 31 ∷ []);
+      given = microsoftSound (0 ∷ 16 ∷ 0 ∷ 100 ∷ 0 ∷ 50 ∷ 0 ∷ 31 ∷ []);
       printed = pos 50 ∷ pos 100 ∷ pos 116 ∷ pos 100 ∷ [];
     }
     -- pair 4, newer -1, nibble 0 gives 0: the first sample after the older and the newer
-    ∷ record { given = take 1 (drop 2 (microsoft (4 ∷ 16 ∷ 0 ∷ 255 ∷ 255 ∷ 0 ∷ 0 ∷ 0 ∷ []))); printed = pos 0 ∷ [] }
+    ∷ record { given = take 1 (drop 2 (microsoftSound (4 ∷ 16 ∷ 0 ∷ 255 ∷ 255 ∷ 0 ∷ 0 ∷ 0 ∷ []))); printed = pos 0 ∷ [] }
     -- 8-bit 0, 128, 255 give -32768, 0, 32512
     ∷ record { given = eights 3 (0 ∷ 128 ∷ 255 ∷ []); printed = negsuc 32767 ∷ pos 0 ∷ pos 32512 ∷ [] }
     ∷ []

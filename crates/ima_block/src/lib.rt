@@ -4,16 +4,15 @@
 // byte has two codes, and so two frames of its channel; in stereo a byte of each channel has four
 // samples that follow each other in the output.
 ghost use mathlib.Core.Path.{_≡_};
-ghost use mathlib.Core.Bool.{true};
 ghost use mathlib.Core.List.{[], _∷_};
 ghost use Prim.Native.Nat.{_+_, _*_, _%_, _≤_, _<_};
 ghost use lib.ListN.{length, drop, getD};
 ghost use Rattle.little.specs.Writing.{Put};
 ghost use Rattle.lists.specs.Turns.{inTurn};
 ghost use Rattle.samples.specs.Sound.{sampleAt};
-ghost use Rattle.formats.specs.Format.{imaSamples};
+ghost use Rattle.codec.specs.Codec.{Decodable, heardFrom, framesHeard, headersValid, low, high, nibbles};
 ghost use Rattle.ima_code.specs.Code.{IsSteps, IsHeld};
-ghost use Rattle.ima_block.specs.Block.{channelPart, imaHeadersValid, imaHeard, imaFrames};
+ghost use Rattle.ima_block.specs.Block.{ima};
 use ima_code::HELD;
 use ima_code::Held;
 use ima_code::ImaState;
@@ -29,7 +28,7 @@ pub struct ImaStates {
 // Whether the header of every channel holds an index in range.
 pub fn headers_valid(block: &[u8], channels: usize) -> bool
     requires { ⌜ (1 ≤ channels) × (channels ≤ 2) × (4 * channels ≤ length (now block)) ⌝ }
-    ensures answer { λ r. ⌜ r ≡ imaHeadersValid channels (now (block .entry)) ⌝ }
+    ensures answer { λ r. ⌜ r ≡ headersValid ima channels (now (block .entry)) ⌝ }
 {
     if 88 < block[2] {
         return false;
@@ -65,7 +64,7 @@ fn mono_codes(
     requires { ⌜ (frames + 8 ≤ 2 * length (now block)) × (at + frames ≤ length (now out)) × (from .index < 89)
         × IsSteps (now table) × IsHeld (now held) ⌝ }
     ensures buffer { λ _. ⌜ Put (now (out .entry)) at
-        (inTurn 1 frames (imaHeard from (drop 4 (now (block .entry))) ∷ [])) (now (out .exit)) ⌝ }
+        (inTurn 1 frames (heardFrom ima from (nibbles low high (drop 4 (now (block .entry)))) ∷ [])) (now (out .exit)) ⌝ }
 {
     let mut state = from;
     let mut left = frames;
@@ -104,8 +103,8 @@ fn stereo_codes(
     requires { ⌜ (frames + 8 ≤ length (now block)) × (length (now block) % 8 ≡ 0) × (at + 2 * frames ≤ length (now out))
         × (from .left .index < 89) × (from .right .index < 89) × IsSteps (now table) × IsHeld (now held) ⌝ }
     ensures buffer { λ _. ⌜ Put (now (out .entry)) at
-        (inTurn 1 frames (imaHeard (from .left) (drop 4 (channelPart 2 (now (block .entry)) 0))
-        ∷ imaHeard (from .right) (drop 4 (channelPart 2 (now (block .entry)) 1)) ∷ []))
+        (inTurn 1 frames (heardFrom ima (from .left) (ima .codes 2 (now (block .entry)) 0)
+        ∷ heardFrom ima (from .right) (ima .codes 2 (now (block .entry)) 1) ∷ []))
         (now (out .exit)) ⌝ }
 {
     let mut l = from.left;
@@ -148,9 +147,9 @@ fn stereo_codes(
 
 // Puts the first frames of a mono block at a place.
 fn mono(block: &[u8], frames: usize, table: &Steps, held: &Held, out: &mut [i16], at: usize)
-    requires { ⌜ (length (now block) % 4 ≡ 0) × (4 ≤ length (now block)) × (1 ≤ frames) × (frames ≤ imaSamples 1 (length (now block)))
-        × (imaHeadersValid 1 (now block) ≡ true) × IsSteps (now table) × IsHeld (now held) × (at + frames ≤ length (now out)) ⌝ }
-    ensures buffer { λ _. ⌜ Put (now (out .entry)) at (imaFrames 1 frames (now (block .entry))) (now (out .exit)) ⌝ }
+    requires { ⌜ Decodable ima 1 frames (now block) × (1 ≤ frames) × (at + frames ≤ length (now out))
+        × IsSteps (now table) × IsHeld (now held) ⌝ }
+    ensures buffer { λ _. ⌜ Put (now (out .entry)) at (framesHeard ima 1 frames (now (block .entry))) (now (out .exit)) ⌝ }
 {
     let state = opened_at(block, 0);
     let x = state.last;
@@ -160,9 +159,9 @@ fn mono(block: &[u8], frames: usize, table: &Steps, held: &Held, out: &mut [i16]
 
 // Puts the first frames of a stereo block at a place.
 fn stereo(block: &[u8], frames: usize, table: &Steps, held: &Held, out: &mut [i16], at: usize)
-    requires { ⌜ (length (now block) % 8 ≡ 0) × (8 ≤ length (now block)) × (1 ≤ frames) × (frames ≤ imaSamples 2 (length (now block)))
-        × (imaHeadersValid 2 (now block) ≡ true) × IsSteps (now table) × IsHeld (now held) × (at + 2 * frames ≤ length (now out)) ⌝ }
-    ensures buffer { λ _. ⌜ Put (now (out .entry)) at (imaFrames 2 frames (now (block .entry))) (now (out .exit)) ⌝ }
+    requires { ⌜ Decodable ima 2 frames (now block) × (1 ≤ frames) × (at + 2 * frames ≤ length (now out))
+        × IsSteps (now table) × IsHeld (now held) ⌝ }
+    ensures buffer { λ _. ⌜ Put (now (out .entry)) at (framesHeard ima 2 frames (now (block .entry))) (now (out .exit)) ⌝ }
 {
     let left = opened_at(block, 0);
     let right = opened_at(block, 4);
@@ -187,10 +186,9 @@ pub fn decode(
     out: &mut [i16],
     at: usize,
 )
-    requires { ⌜ (1 ≤ channels) × (channels ≤ 2) × (length (now block) % (4 * channels) ≡ 0) × (4 * channels ≤ length (now block))
-        × (1 ≤ frames) × (frames ≤ imaSamples channels (length (now block)))
-        × (imaHeadersValid channels (now block) ≡ true) × IsSteps (now table) × (at + channels * frames ≤ length (now out)) ⌝ }
-    ensures buffer { λ _. ⌜ Put (now (out .entry)) at (imaFrames channels frames (now (block .entry))) (now (out .exit)) ⌝ }
+    requires { ⌜ Decodable ima channels frames (now block) × (1 ≤ frames) × (at + channels * frames ≤ length (now out))
+        × IsSteps (now table) ⌝ }
+    ensures buffer { λ _. ⌜ Put (now (out .entry)) at (framesHeard ima channels frames (now (block .entry))) (now (out .exit)) ⌝ }
 {
     let held = HELD;
     if channels == 1 {

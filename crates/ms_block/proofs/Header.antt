@@ -5,73 +5,44 @@ use mathlib.Core.List.{List, [], _∷_}
 use Prim.Native.Nat.{ℕ, zero, suc, _+_, _*_, _≤_, _<_}
 use native.Mathlib.Nat.{le-trans}
 use native.Mathlib.Omega.{arith}
-use lib.Dec.{T, leb, eqb, leb→le}
+use lib.Dec.{T, leb, leb→le}
 use lib.IntN.{ℤ, pos, natAbs}
 use lib.ListN.{getD}
 use mir.Syntax.{w16, w32}
 use mir.Val.{SFits}
 use mir.Facts.{toZ-ofZ, and-yes}
-use borrow.Author.Tests.{leb-true, lt-leb, le-leb, eqb-true, eqb-false}
+use borrow.Author.Tests.{leb-true, lt-leb, le-leb}
 use Rattle.formats.specs.Format.{pairs}
-use Rattle.lists.specs.Every.{every}
-use Rattle.lists.proofs.Laws.{and-true, and-both}
+use Rattle.codec.specs.Codec.{Decodable, headersValid}
+use Rattle.codec.proofs.Channels.{first-refused, only-valid, second-decides, each-valid}
 use Rattle.ms_code.specs.declared.MsState.{MsState}
 use Rattle.ms_code.specs.Nibble.{Tame}
 use Rattle.samples.specs.Sound.{sampleAt}
 use Rattle.samples.proofs.Signed.{back, Near, near-fits, fits-near}
 use Rattle.samples.proofs.Laws.{widened, wide-is}
-use Rattle.ms_block.specs.Block.{predictorOf, msHeadersValid, coefficient, msOpened}
+use Rattle.ms_block.specs.Block.{predictorOf, coefficient, msOpened, microsoft}
 
--- ---- the check of the headers
-module _ (s : List ℕ) where
-  headers-one : msHeadersValid 1 s ≡ leb (getD s 0 0) 6
-  unfolding msHeadersValid every predictorOf
-  headers-one = and-true (leb (getD s 0 0) 6)
+-- ---- the check of the headers, which may refuse above any k from 6 on
+module _ (s : List ℕ) {c : ℕ} (l : 1 ≤ c) (u : c ≤ 2) where
+  pub fine-first : {k : ℕ} → k < getD s 0 0 → 6 ≤ k → false ≡ headersValid microsoft c s
+  unfolding predictorOf
+  fine-first g i = first-refused microsoft s l (lt-leb (getD s 0 0) 6 (omega arith))
 
-  headers-two : msHeadersValid 2 s ≡ (leb (getD s 0 0) 6 && leb (getD s 1 0) 6)
-  unfolding msHeadersValid every predictorOf
-  headers-two = ap (λ (b : Bool). leb (getD s 0 0) 6 && b) (and-true (leb (getD s 1 0) 6))
+  module _ (a : getD s 0 0 ≤ 6) where
+    pub fine-mono : c ≡ 1 → true ≡ headersValid microsoft c s
+    unfolding predictorOf
+    fine-mono e = only-valid microsoft s l (le-leb (getD s 0 0) 6 a) e
 
-  -- in the words of the check
-  module _ {c : ℕ} (l : 1 ≤ c) (u : c ≤ 2) where
-    fine-one : c ≡ 1 → msHeadersValid c s ≡ leb (getD s 0 0) 6
-    fine-one e = ap (λ (k : ℕ). msHeadersValid k s) e ∙ headers-one
-
-    fine-two : (c ≡ 1 → ⊥) → msHeadersValid c s ≡ (leb (getD s 0 0) 6 && leb (getD s 1 0) 6)
-    fine-two n =
-        let e : c ≡ 2 = omega arith in
-        ap (λ (k : ℕ). msHeadersValid k s) e ∙ headers-two
-
-    -- the check may refuse above any k from 6 on
-    pub fine-first : {k : ℕ} → k < getD s 0 0 → 6 ≤ k → false ≡ msHeadersValid c s
-    fine-first {k} g i = by (eqb c 1) refl
-      where
-        by : (q : Bool) → eqb c 1 ≡ q → false ≡ msHeadersValid c s
-        by true t = sym (fine-one (eqb-true c 1 t) ∙ lt-leb (getD s 0 0) 6 (omega arith))
-        by false t = sym (fine-two (eqb-false c 1 t) ∙ simp (lt-leb (getD s 0 0) 6 (omega arith)))
-
-    module _ (a : getD s 0 0 ≤ 6) where
-      pub fine-mono : c ≡ 1 → true ≡ msHeadersValid c s
-      fine-mono e = sym (fine-one e ∙ le-leb (getD s 0 0) 6 a)
-
-      pub fine-both : (c ≡ 1 → ⊥) → leb (getD s 1 0) 6 ≡ msHeadersValid c s
-      fine-both n = sym (fine-two n ∙ simp (le-leb (getD s 0 0) 6 a))
-
-  -- what a valid header promises
-  pub predictor-one : msHeadersValid 1 s ≡ true → getD s 0 0 ≤ 6
-  predictor-one e = leb-true (getD s 0 0) 6 (sym headers-one ∙ e)
-
-  module _ (e : msHeadersValid 2 s ≡ true) where
-    both-valid : (leb (getD s 0 0) 6 ≡ true) × (leb (getD s 1 0) 6 ≡ true)
-    both-valid = and-both (leb (getD s 0 0) 6) (leb (getD s 1 0) 6) (sym headers-two ∙ e)
-
-    pub predictor-left : getD s 0 0 ≤ 6
-    predictor-left = leb-true (getD s 0 0) 6 (both-valid .0)
-
-    pub predictor-right : getD s 1 0 ≤ 6
-    predictor-right = leb-true (getD s 1 0) 6 (both-valid .1)
+    pub fine-both : (c ≡ 1 → ⊥) → leb (getD s 1 0) 6 ≡ headersValid microsoft c s
+    unfolding predictorOf
+    fine-both n = second-decides microsoft s l u (le-leb (getD s 0 0) 6 a) n
 
 pub ruleset checking = (fine-first, fine-mono, fine-both)
+
+-- what a valid header promises
+pub predictor-at : {c n : ℕ} {s : List ℕ} (ch : ℕ) → Decodable microsoft c n s → ch < c → getD s ch 0 ≤ 6
+unfolding predictorOf
+predictor-at {s = s} ch w h = leb-true (getD s ch 0) 6 (each-valid microsoft s (w .valid) ch h)
 
 -- ---- the table of pairs: one test that is computed over all of them, and what it says of each
 abbrev small : List (List ℤ) → Bool

@@ -1,11 +1,10 @@
 -- Laws of whole blocks: their frames are the samples of the headers and what is heard of the nibbles. Assumes nothing.
 use mathlib.Core.Path.{_≡_, refl, sym, ap, _∙_}
-use mathlib.Core.Bool.{true}
 use mathlib.Core.List.{List, [], _∷_}
 use Prim.Native.Nat.{ℕ, suc, _+_, _-_, _*_, _≤_, _<_}
 use native.Mathlib.Omega.{arith}
 use lib.IntN.{ℤ}
-use lib.ListN.{length, set, length-set}
+use lib.ListN.{length, drop, set, length-set}
 use mir.Syntax.{w16}
 use mir.Val.{SFits}
 use mir.Facts.{toZ-ofZ}
@@ -16,8 +15,10 @@ use Rattle.lists.proofs.Turns.{turn-room}
 use Rattle.ms_code.specs.declared.MsState.{MsState}
 use Rattle.samples.proofs.Signed.{back}
 use Rattle.formats.specs.Format.{msSamples}
-use Rattle.ms_block.specs.Block.{msHeadersValid, msOpened, channelNibbles, msHeard, msSound, msFrames}
-use Rattle.ms_block.proofs.Header.{predictor-one, predictor-left, predictor-right}
+use Rattle.codec.specs.Codec.{Decodable, heardFrom, channelStates, channelHeard, framesHeard, low, high, nibbles}
+use Rattle.ms_block.specs.Block.{msOpened, channelNibbles, microsoft}
+use Rattle.ms_block.proofs.Header.{predictor-at}
+use Rattle.ms_block.proofs.Places.{channel-one}
 
 two-same : (out : List ℤ) (at : ℕ) (x y : ℤ) → length (set (set out at x) (at + 1) y) ≡ length out
 two-same out at x y = length-set (set out at x) (at + 1) y ∙ length-set out at x
@@ -36,40 +37,43 @@ module _ (out : List ℤ) (at n : ℕ) (m : 2 ≤ n) (r : at + n ≤ length out)
     mono-long l p = put-long p (omega (arith, turn-room 1 (n - 2) (l ∷ []), two-same out at x y)) ∙ two-same out at x y
 
 module _ (s : List ℕ) (n : ℕ) where
-  pub mono-bytes : 7 ≤ length s → 2 ≤ n → n ≤ msSamples 1 (length s) → n - 2 + 14 ≤ 2 * length s
+  pub mono-header : Decodable microsoft 1 n s → 7 ≤ length s
+  mono-header w = w .headed
+
+  pub mono-bytes : Decodable microsoft 1 n s → 2 ≤ n → n - 2 + 14 ≤ 2 * length s
   unfolding msSamples
-  mono-bytes h m k = omega arith
+  mono-bytes w m = omega (arith, w .headed, w .enough)
 
   module _ {t : MsState} (e : t ≡ msOpened 1 s 0) where
-    mono-one : n ≡ 1 → msFrames 1 n s ≡ t .older ∷ []
-    unfolding msFrames values inTurn joined msSound
-    mono-one k = ap (λ (k : ℕ). msFrames 1 k s) k ∙ ap (λ (u : MsState). u .older ∷ []) (sym e)
+    mono-one : n ≡ 1 → framesHeard microsoft 1 n s ≡ t .older ∷ []
+    unfolding framesHeard values inTurn joined channelHeard channelStates heardFrom
+    mono-one k = ap (λ (k : ℕ). framesHeard microsoft 1 k s) k ∙ ap (λ (u : MsState). u .older ∷ []) (sym e)
 
     -- one frame is the older sample
     pub mono-only : (out : List ℤ) (at : ℕ) → 1 ≤ n → n < 2 → at + n ≤ length out → SFits w16 (t .older)
-        → Put out at (msFrames 1 n s) (set out at (back w16 (t .older)))
+        → Put out at (framesHeard microsoft 1 n s) (set out at (back w16 (t .older)))
     mono-only out at l u r f = rw (mono-one (omega arith), toZ-ofZ f) (one-store (omega arith))
 
     module _ (m : 2 ≤ n) where
       abbrev single : List ℤ
-      single = inTurn 1 (n - 2) (msHeard t (channelNibbles 1 s 0) ∷ [])
+      single = inTurn 1 (n - 2) (heardFrom microsoft t (nibbles high low (drop 7 s)) ∷ [])
 
-      mono-frames : msFrames 1 n s ≡ t .older ∷ t .newer ∷ single
-      unfolding msFrames values inTurn joined msSound
+      mono-frames : framesHeard microsoft 1 n s ≡ t .older ∷ t .newer ∷ single
+      unfolding framesHeard values inTurn joined channelHeard channelStates heardFrom
       mono-frames =
           let k : n ≡ suc (suc (n - 2)) = omega arith in
-          ap (λ (k : ℕ). msFrames 1 k s) k
-          ∙ ap (λ (u : MsState). u .older ∷ u .newer ∷ inTurn 1 (n - 2) (msHeard u (channelNibbles 1 s 0) ∷ [])) (sym e)
+          ap (λ (k : ℕ). framesHeard microsoft 1 k s) k
+          ∙ (λ j. sym e j .older ∷ sym e j .newer ∷ inTurn 1 (n - 2) (heardFrom microsoft (sym e j) (channel-one s j) ∷ []))
 
       pub mono-put : (out : List ℤ) {last : List ℤ} (at : ℕ) → at + n ≤ length out
           → Put (set (set out at (back w16 (t .older))) (at + 1) (back w16 (t .newer))) (at + 2) single last
-          → SFits w16 (t .older) → SFits w16 (t .newer) → Put out at (msFrames 1 n s) last
+          → SFits w16 (t .older) → SFits w16 (t .newer) → Put out at (framesHeard microsoft 1 n s) last
       mono-put out at r p f g =
           let q = rw (toZ-ofZ f, toZ-ofZ g) at p in
-          let u = turn-room 1 (n - 2) (msHeard t (channelNibbles 1 s 0) ∷ []) in
+          let u = turn-room 1 (n - 2) (heardFrom microsoft t (nibbles high low (drop 7 s)) ∷ []) in
           rw mono-frames (put-next (two-stores (omega arith)) q refl (omega arith))
 
-pub ruleset mono = (predictor-one, mono-second, mono-room, mono-long, mono-bytes, mono-only, mono-put)
+pub ruleset mono = (predictor-at, mono-header, mono-second, mono-room, mono-long, mono-bytes, mono-only, mono-put)
 
 -- ---- stereo
 module _ (out : List ℤ) (at n : ℕ) (k : at + 2 * n ≤ length out) where
@@ -102,48 +106,51 @@ module _ (out : List ℤ) (at n : ℕ) (k : at + 2 * n ≤ length out) where
       stereo-long l r p = put-long p (omega (arith, turn-room 1 (n - 2) (l ∷ r ∷ []), four-same)) ∙ four-same
 
 module _ (s : List ℕ) (n : ℕ) where
-  pub stereo-bytes : 14 ≤ length s → 2 ≤ n → n ≤ msSamples 2 (length s) → n - 2 + 14 ≤ length s
+  pub stereo-headers : Decodable microsoft 2 n s → 14 ≤ length s
+  stereo-headers w = w .headed
+
+  pub stereo-bytes : Decodable microsoft 2 n s → 2 ≤ n → n - 2 + 14 ≤ length s
   unfolding msSamples
-  stereo-bytes h m k = omega arith
+  stereo-bytes w m = omega (arith, w .headed, w .enough)
 
   module _ {l r : MsState} (e : l ≡ msOpened 2 s 0) (f : r ≡ msOpened 2 s 1) where
-    stereo-one : n ≡ 1 → msFrames 2 n s ≡ l .older ∷ r .older ∷ []
-    unfolding msFrames values inTurn joined msSound
-    stereo-one k = ap (λ (k : ℕ). msFrames 2 k s) k ∙ (λ j. sym e j .older ∷ sym f j .older ∷ [])
+    stereo-one : n ≡ 1 → framesHeard microsoft 2 n s ≡ l .older ∷ r .older ∷ []
+    unfolding framesHeard values inTurn joined channelHeard channelStates heardFrom
+    stereo-one k = ap (λ (k : ℕ). framesHeard microsoft 2 k s) k ∙ (λ j. sym e j .older ∷ sym f j .older ∷ [])
 
     -- one frame is the older sample of each channel
     pub stereo-only : (out : List ℤ) (at : ℕ) → 1 ≤ n → n < 2 → at + 2 * n ≤ length out
         → SFits w16 (l .older) → SFits w16 (r .older)
-        → Put out at (msFrames 2 n s) (set (set out at (back w16 (l .older))) (at + 1) (back w16 (r .older)))
+        → Put out at (framesHeard microsoft 2 n s) (set (set out at (back w16 (l .older))) (at + 1) (back w16 (r .older)))
     stereo-only out at a b m g h =
         rw (stereo-one (omega arith), toZ-ofZ g, toZ-ofZ h) (two-stores (omega arith))
 
     module _ (m : 2 ≤ n) where
       abbrev double : MsState → MsState → List ℤ
-      double x y = inTurn 1 (n - 2) (msHeard x (channelNibbles 2 s 0) ∷ msHeard y (channelNibbles 2 s 1) ∷ [])
+      double x y = inTurn 1 (n - 2) (heardFrom microsoft x (channelNibbles 2 s 0) ∷ heardFrom microsoft y (channelNibbles 2 s 1) ∷ [])
 
-      stereo-frames : msFrames 2 n s ≡ l .older ∷ r .older ∷ l .newer ∷ r .newer ∷ double l r
-      unfolding msFrames values inTurn joined msSound
+      stereo-frames : framesHeard microsoft 2 n s ≡ l .older ∷ r .older ∷ l .newer ∷ r .newer ∷ double l r
+      unfolding framesHeard values inTurn joined channelHeard channelStates heardFrom
       stereo-frames =
           let k : n ≡ suc (suc (n - 2)) = omega arith in
           let x = sym e in
           let y = sym f in
-          ap (λ (k : ℕ). msFrames 2 k s) k
+          ap (λ (k : ℕ). framesHeard microsoft 2 k s) k
           ∙ (λ j. x j .older ∷ y j .older ∷ x j .newer ∷ y j .newer ∷ double (x j) (y j))
 
       pub stereo-put : (out : List ℤ) {last : List ℤ} (at : ℕ) → at + 2 * n ≤ length out
           → Put (set (set (set (set out at (back w16 (l .older))) (at + 1) (back w16 (r .older)))
           (at + 2) (back w16 (l .newer))) (at + 3) (back w16 (r .newer))) (at + 4) (double l r) last
           → SFits w16 (l .older) → SFits w16 (r .older) → SFits w16 (l .newer) → SFits w16 (r .newer)
-          → Put out at (msFrames 2 n s) last
+          → Put out at (framesHeard microsoft 2 n s) last
       stereo-put out at k p a b c d =
           let q = rw (toZ-ofZ a, toZ-ofZ b, toZ-ofZ c, toZ-ofZ d) at p in
-          let u = turn-room 1 (n - 2) (msHeard l (channelNibbles 2 s 0) ∷ msHeard r (channelNibbles 2 s 1) ∷ []) in
+          let u = turn-room 1 (n - 2) (heardFrom microsoft l (channelNibbles 2 s 0) ∷ heardFrom microsoft r (channelNibbles 2 s 1) ∷ []) in
           rw stereo-frames (put-next (four-stores (omega arith)) q refl (omega arith))
 
 pub ruleset stereo = (
-  predictor-left,
-  predictor-right,
+  predictor-at,
+  stereo-headers,
   stereo-second,
   stereo-third,
   stereo-fourth,
@@ -153,45 +160,3 @@ pub ruleset stereo = (
   stereo-only,
   stereo-put,
 )
-
--- ---- a number of channels that turned out to be 1
-module _ {c : ℕ} (e : c ≡ 1) where
-  pub one-header : (l : ℕ) → 7 * c ≤ l → 7 ≤ l
-  one-header l h = rw e at h
-
-  pub one-frames : (l n : ℕ) → n ≤ msSamples c l → n ≤ msSamples 1 l
-  one-frames l n h = rw e at h
-
-  pub one-valid : (s : List ℕ) → msHeadersValid c s ≡ true → msHeadersValid 1 s ≡ true
-  one-valid s h = rw e at h
-
-  pub one-room : (l at n : ℕ) → at + c * n ≤ l → at + n ≤ l
-  one-room l at n h = omega (arith, rw e at h)
-
-  pub one-put : (s : List ℕ) (n : ℕ) {d g : List ℤ} {at : ℕ}
-      → Put d at (msFrames 1 n s) g → Put d at (msFrames c n s) g
-  one-put s n p = rw e p
-
--- and 2
-module _ {c : ℕ} (l : 1 ≤ c) (u : c ≤ 2) (n : c ≡ 1 → ⊥) where
-  two : c ≡ 2
-  two = omega arith
-
-  pub two-headers : (l : ℕ) → 7 * c ≤ l → 14 ≤ l
-  two-headers l h = rw two at h
-
-  pub two-frames : (l n : ℕ) → n ≤ msSamples c l → n ≤ msSamples 2 l
-  two-frames l n h = rw two at h
-
-  pub two-valid : (s : List ℕ) → msHeadersValid c s ≡ true → msHeadersValid 2 s ≡ true
-  two-valid s h = rw two at h
-
-  pub two-room : (l at n : ℕ) → at + c * n ≤ l → at + 2 * n ≤ l
-  two-room l at n h = rw two at h
-
-  pub two-put : (s : List ℕ) (n : ℕ) {d g : List ℤ} {at : ℕ}
-      → Put d at (msFrames 2 n s) g → Put d at (msFrames c n s) g
-  two-put s n p = rw two p
-
-pub ruleset channels =
-    (one-header, one-frames, one-valid, one-room, one-put, two-headers, two-frames, two-valid, two-room, two-put)

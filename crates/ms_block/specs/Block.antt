@@ -1,14 +1,12 @@
--- A Microsoft block: the header and the nibbles of each channel, and its sound. Assumes nothing.
-use Prim.Native.Nat.{ℕ, _+_, _-_, _*_, _/_, _%_}
-use mathlib.Core.Bool.{Bool}
-use mathlib.Core.List.{List, [], _∷_, map}
+-- A Microsoft block: the header and the nibbles of each channel. Assumes nothing.
+use Prim.Native.Nat.{ℕ, _+_, _-_, _*_, _/_}
+use mathlib.Core.List.{List, [], _∷_}
 use lib.Dec.{leb}
 use lib.IntN.{ℤ, pos}
 use lib.ListN.{length, drop, getD}
-use Rattle.formats.specs.Format.{pairs}
-use Rattle.lists.specs.Every.{every}
-use Rattle.lists.specs.States.{through}
-use Rattle.lists.specs.Turns.{values, inTurn, picked}
+use Rattle.formats.specs.Format.{pairs, msSamples}
+use Rattle.lists.specs.Turns.{picked}
+use Rattle.codec.specs.Codec.{Codec, low, high, nibbles}
 use Rattle.ms_code.specs.declared.MsState.{MsState}
 use Rattle.ms_code.specs.Nibble.{afterNibble}
 use Rattle.samples.specs.Sound.{sampleAt}
@@ -16,10 +14,6 @@ use Rattle.samples.specs.Sound.{sampleAt}
 -- predictor byte per channel
 unfoldable pub predictorOf : List ℕ → ℕ → ℕ
 predictorOf b ch = getD b ch 0
-
--- above 6 gives 15
-unfoldable pub msHeadersValid : ℕ → List ℕ → Bool
-msHeadersValid c b = every (λ ch. leb (predictorOf b ch) 6) 0 c
 
 -- c1 or c2 of a predictor's pair
 unfoldable pub coefficient : ℕ → ℕ → ℤ
@@ -36,23 +30,21 @@ msOpened c b ch =
       older = sampleAt b (5 * c + 2 * ch);
     }
 
--- the nibbles of bytes, high nibble first
-unfoldable pub highFirst : List ℕ → List ℕ
-highFirst [] = []
-highFirst (b ∷ bs) = b / 16 ∷ b % 16 ∷ highFirst bs
-
 -- the nibbles of channel ch: behind the headers one of each channel stands in turn, so in stereo the high one is left
 unfoldable pub channelNibbles : ℕ → List ℕ → ℕ → List ℕ
-channelNibbles c b ch = picked 1 c (highFirst (drop (7 * c) b)) ch ((length b - 7 * c) * 2 / c)
+channelNibbles c b ch = picked 1 c (nibbles high low (drop (7 * c) b)) ch ((length b - 7 * c) * 2 / c)
 
--- what is heard of nibbles from a state on
-unfoldable pub msHeard : MsState → List ℕ → List ℤ
-msHeard t ks = map (λ s. s .newer) (through afterNibble t ks)
-
--- the sound of channel ch: output the older, then the newer, then what is heard of its nibbles
-unfoldable pub msSound : ℕ → List ℕ → ℕ → List ℤ
-msSound c b ch = msOpened c b ch .older ∷ msOpened c b ch .newer ∷ msHeard (msOpened c b ch) (channelNibbles c b ch)
-
--- the sound of a block, its first n frames: one sample of each channel in turn
-unfoldable pub msFrames : ℕ → ℕ → List ℕ → List ℤ
-msFrames c n b = inTurn 1 n (values (msSound c b) 0 c)
+-- a predictor above 6 is out of range; output the older, then the newer, then what is heard of the nibbles
+abbrev pub microsoft : Codec MsState
+microsoft =
+    record {
+      header = 7;
+      unit = λ c. 1;
+      samples = msSamples;
+      valid = λ c b ch. leb (predictorOf b ch) 6;
+      opened = msOpened;
+      codes = channelNibbles;
+      step = afterNibble;
+      sample = λ t. t .newer;
+      before = λ t. t .older ∷ [];
+    }

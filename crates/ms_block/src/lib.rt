@@ -4,15 +4,14 @@
 // A block is the headers of the channels and behind them the nibbles, of each channel in turn. In mono a
 // byte has two frames, in stereo one.
 ghost use mathlib.Core.Path.{_≡_};
-ghost use mathlib.Core.Bool.{true};
 ghost use mathlib.Core.List.{[], _∷_};
 ghost use Prim.Native.Nat.{_+_, _*_, _≤_, _<_};
-ghost use lib.ListN.{length, getD};
+ghost use lib.ListN.{length, drop, getD};
 ghost use Rattle.little.specs.Writing.{Put};
 ghost use Rattle.lists.specs.Turns.{inTurn};
-ghost use Rattle.formats.specs.Format.{msSamples};
+ghost use Rattle.codec.specs.Codec.{Decodable, heardFrom, framesHeard, headersValid, low, high, nibbles};
 ghost use Rattle.ms_code.specs.Nibble.{IsFactors, Tame};
-ghost use Rattle.ms_block.specs.Block.{msHeadersValid, msOpened, channelNibbles, msHeard, msFrames};
+ghost use Rattle.ms_block.specs.Block.{msOpened, microsoft};
 use formats::PAIRS;
 use ms_code::Factors;
 use ms_code::MsState;
@@ -20,8 +19,8 @@ use ms_code::decode_nibble;
 
 // Whether every channel has one of the seven predictors.
 pub fn headers_valid(block: &[u8], channels: usize) -> bool
-    requires { ⌜ (1 ≤ channels) × (channels ≤ 2) × (channels ≤ length (now block)) ⌝ }
-    ensures answer { λ r. ⌜ r ≡ msHeadersValid channels (now (block .entry)) ⌝ }
+    requires { ⌜ (1 ≤ channels) × (channels ≤ 2) × (7 * channels ≤ length (now block)) ⌝ }
+    ensures answer { λ r. ⌜ r ≡ headersValid microsoft channels (now (block .entry)) ⌝ }
 {
     if 6 < block[0] {
         return false;
@@ -62,7 +61,7 @@ fn mono_nibbles(
     requires { ⌜ (frames + 14 ≤ 2 * length (now block)) × (at + frames ≤ length (now out))
         × Tame from × IsFactors (now table) ⌝ }
     ensures buffer { λ _. ⌜ Put (now (out .entry)) at
-        (inTurn 1 frames (msHeard from (channelNibbles 1 (now (block .entry)) 0) ∷ [])) (now (out .exit)) ⌝ }
+        (inTurn 1 frames (heardFrom microsoft from (nibbles high low (drop 7 (now (block .entry)))) ∷ [])) (now (out .exit)) ⌝ }
 {
     let mut state = from;
     let mut left = frames;
@@ -101,8 +100,8 @@ fn stereo_nibbles(
     requires { ⌜ (frames + 14 ≤ length (now block)) × (at + 2 * frames ≤ length (now out))
         × Tame left × Tame right × IsFactors (now table) ⌝ }
     ensures buffer { λ _. ⌜ Put (now (out .entry)) at
-        (inTurn 1 frames (msHeard left (channelNibbles 2 (now (block .entry)) 0)
-        ∷ msHeard right (channelNibbles 2 (now (block .entry)) 1) ∷ []))
+        (inTurn 1 frames (heardFrom microsoft left (microsoft .codes 2 (now (block .entry)) 0)
+        ∷ heardFrom microsoft right (microsoft .codes 2 (now (block .entry)) 1) ∷ []))
         (now (out .exit)) ⌝ }
 {
     let mut l = left;
@@ -126,9 +125,8 @@ fn stereo_nibbles(
 
 // Puts the first frames of a mono block at a place.
 fn mono(block: &[u8], frames: usize, table: &Factors, out: &mut [i16], at: usize)
-    requires { ⌜ (7 ≤ length (now block)) × (1 ≤ frames) × (frames ≤ msSamples 1 (length (now block)))
-        × (msHeadersValid 1 (now block) ≡ true) × IsFactors (now table) × (at + frames ≤ length (now out)) ⌝ }
-    ensures buffer { λ _. ⌜ Put (now (out .entry)) at (msFrames 1 frames (now (block .entry))) (now (out .exit)) ⌝ }
+    requires { ⌜ Decodable microsoft 1 frames (now block) × (1 ≤ frames) × (at + frames ≤ length (now out)) × IsFactors (now table) ⌝ }
+    ensures buffer { λ _. ⌜ Put (now (out .entry)) at (framesHeard microsoft 1 frames (now (block .entry))) (now (out .exit)) ⌝ }
 {
     let state = opened_at(block, 1, 0);
     let x = state.older;
@@ -143,9 +141,8 @@ fn mono(block: &[u8], frames: usize, table: &Factors, out: &mut [i16], at: usize
 
 // Puts the first frames of a stereo block at a place.
 fn stereo(block: &[u8], frames: usize, table: &Factors, out: &mut [i16], at: usize)
-    requires { ⌜ (14 ≤ length (now block)) × (1 ≤ frames) × (frames ≤ msSamples 2 (length (now block)))
-        × (msHeadersValid 2 (now block) ≡ true) × IsFactors (now table) × (at + 2 * frames ≤ length (now out)) ⌝ }
-    ensures buffer { λ _. ⌜ Put (now (out .entry)) at (msFrames 2 frames (now (block .entry))) (now (out .exit)) ⌝ }
+    requires { ⌜ Decodable microsoft 2 frames (now block) × (1 ≤ frames) × (at + 2 * frames ≤ length (now out)) × IsFactors (now table) ⌝ }
+    ensures buffer { λ _. ⌜ Put (now (out .entry)) at (framesHeard microsoft 2 frames (now (block .entry))) (now (out .exit)) ⌝ }
 {
     let left = opened_at(block, 2, 0);
     let right = opened_at(block, 2, 1);
@@ -173,10 +170,9 @@ pub fn decode(
     out: &mut [i16],
     at: usize,
 )
-    requires { ⌜ (1 ≤ channels) × (channels ≤ 2) × (7 * channels ≤ length (now block))
-        × (1 ≤ frames) × (frames ≤ msSamples channels (length (now block)))
-        × (msHeadersValid channels (now block) ≡ true) × IsFactors (now table) × (at + channels * frames ≤ length (now out)) ⌝ }
-    ensures buffer { λ _. ⌜ Put (now (out .entry)) at (msFrames channels frames (now (block .entry))) (now (out .exit)) ⌝ }
+    requires { ⌜ Decodable microsoft channels frames (now block) × (1 ≤ frames) × (at + channels * frames ≤ length (now out))
+        × IsFactors (now table) ⌝ }
+    ensures buffer { λ _. ⌜ Put (now (out .entry)) at (framesHeard microsoft channels frames (now (block .entry))) (now (out .exit)) ⌝ }
 {
     if channels == 1 {
         mono(block, frames, table, out, at);

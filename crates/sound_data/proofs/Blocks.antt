@@ -16,125 +16,105 @@ use Rattle.lists.proofs.Turns.{Long, values-long, values-alike, turn-long, turn
 use Rattle.formats.specs.declared.Format.{Format}
 use Rattle.formats.specs.Format.{byTag, imaSamples, msSamples, formatRule}
 use Rattle.formats.proofs.Taken.{taken-some, taken-two, taken-ima, taken-microsoft, taken-samples, by-format, wanted-tag}
-use Rattle.ima_block.specs.Block as ima
+use Rattle.codec.specs.Codec.{Codec, Decodable, channelHeard, framesHeard, headersValid}
+use Rattle.ima_block.specs.Block.{ima}
 use Rattle.ima_block.proofs.Frames as ima-frames
-use Rattle.ms_block.specs.Block as microsoft
+use Rattle.ms_block.specs.Block.{microsoft}
 use Rattle.ms_block.proofs.Frames as microsoft-frames
 use Rattle.sound_data.specs.Sound.{pcmSample, channelSound, blockFrames, blockValid}
 
--- ---- by the tag
+-- ---- PCM
 module _ (f : Format) (b : List ℕ) where
   abbrev soundBy : ℕ → ℕ → List ℤ
   soundBy tag ch =
-      byTag tag (pcmSample (f .bits) b ch ∷ []) (ima.imaSound (ima.channelPart (f .channels) b ch))
-      (microsoft.msSound (f .channels) b ch) []
+      byTag tag (pcmSample (f .bits) b ch ∷ []) (channelHeard ima (f .channels) b ch) (channelHeard microsoft (f .channels) b ch) []
 
   abbrev fineBy : ℕ → Bool
-  fineBy tag = byTag tag true (ima.imaHeadersValid (f .channels) b) (microsoft.msHeadersValid (f .channels) b) true
+  fineBy tag = byTag tag true (headersValid ima (f .channels) b) (headersValid microsoft (f .channels) b) true
 
   pub sound-pcm : (ch : ℕ) → f .tag ≡ 1 → channelSound f b ch ≡ pcmSample (f .bits) b ch ∷ []
   unfolding channelSound
   sound-pcm ch t = ap (λ (k : ℕ). soundBy k ch) t
 
-  sound-ima : (ch : ℕ) → f .tag ≡ 17 → channelSound f b ch ≡ ima.imaSound (ima.channelPart (f .channels) b ch)
-  unfolding channelSound
-  sound-ima ch t = ap (λ (k : ℕ). soundBy k ch) t
-
-  sound-microsoft : (ch : ℕ) → f .tag ≡ 2 → channelSound f b ch ≡ microsoft.msSound (f .channels) b ch
-  unfolding channelSound
-  sound-microsoft ch t = ap (λ (k : ℕ). soundBy k ch) t
-
   pub fine-pcm : f .tag ≡ 1 → true ≡ blockValid f b
   unfolding blockValid
   fine-pcm t = sym (ap fineBy t)
 
-  fine-ima : f .tag ≡ 17 → ima.imaHeadersValid (f .channels) b ≡ blockValid f b
-  unfolding blockValid
-  fine-ima t = sym (ap fineBy t)
+-- ---- a block of format f is one of codec k
+pub record BlockBy {S : Type 0} (k : Codec S) (f : Format) (b : List ℕ) : Type 0 where
+  pub sound : (ch : ℕ) → channelSound f b ch ≡ channelHeard k (f .channels) b ch
+  pub headers : headersValid k (f .channels) b ≡ blockValid f b
+  pub whole : length b % k .unit (f .channels) ≡ 0
+  pub headed : k .header * f .channels ≤ length b
+  pub samples : f .samples ≡ k .samples (f .channels) (length b)
+  pub long : (ch : ℕ) → ch < f .channels → length (channelHeard k (f .channels) b ch) ≡ k .samples (f .channels) (length b)
 
-  fine-microsoft : f .tag ≡ 2 → microsoft.msHeadersValid (f .channels) b ≡ blockValid f b
-  unfolding blockValid
-  fine-microsoft t = sym (ap fineBy t)
+module _ {S : Type 0} {k : Codec S} {f : Format} {b : List ℕ} (w : BlockBy k f b) where
+  pub headers-tested : {r : Bool} → r ≡ headersValid k (f .channels) b → r ≡ blockValid f b
+  headers-tested g = g ∙ w .headers
 
-  frames-ima : (n : ℕ) → f .tag ≡ 17 → ima.imaFrames (f .channels) n b ≡ blockFrames f n b
-  unfolding ima.imaFrames blockFrames
-  frames-ima n t = sym (λ i. inTurn 1 n (values (λ ch. sound-ima ch t i) 0 (f .channels)))
+  pub frames-decodable : {n : ℕ} → formatRule f ≡ true → blockValid f b ≡ true → n ≤ f .samples → Decodable k (f .channels) n b
+  frames-decodable e v h =
+      record {
+        least = taken-some f e;
+        most = taken-two f e;
+        whole = w .whole;
+        headed = w .headed;
+        enough = omega (arith, w .samples);
+        valid = w .headers ∙ v;
+      }
 
-  frames-microsoft : (n : ℕ) → f .tag ≡ 2 → microsoft.msFrames (f .channels) n b ≡ blockFrames f n b
-  unfolding microsoft.msFrames blockFrames
-  frames-microsoft n t = sym (λ i. inTurn 1 n (values (λ ch. sound-microsoft ch t i) 0 (f .channels)))
+  pub frames-put : (n : ℕ) {at : ℕ} {d g : List ℤ} → Put d at (framesHeard k (f .channels) n b) g → Put d at (blockFrames f n b) g
+  unfolding framesHeard blockFrames
+  frames-put n {at} {d} {g} p = subst (λ (l : List ℤ). Put d at l g) (sym (λ i. inTurn 1 n (values (λ ch. w .sound ch i) 0 (f .channels)))) p
 
--- ---- a block of a format that is taken
+  sound-long : (ch : ℕ) → ch < f .channels → length (channelSound f b ch) ≡ f .samples
+  sound-long ch h = ap length (w .sound ch) ∙ w .long ch h ∙ sym (w .samples)
+
 module _ (f : Format) (e : formatRule f ≡ true) (b : List ℕ) (l : length b ≡ f .align) where
-  -- IMA: what its functions ask, and what they give
+  -- ---- the codec of each tag
   module _ (n : f .tag ≡ 1 → ⊥) where
-    module _ (t : f .tag ≡ 17) where
-      pub ima-headers : 4 * f .channels ≤ length b
-      ima-headers = omega (arith, taken-ima f e n t .sized .least)
+    pub by-ima : f .tag ≡ 17 → BlockBy ima f b
+    unfolding channelSound blockValid
+    by-ima t =
+        let p = taken-ima f e n t in
+        let w : length b % (4 * f .channels) ≡ 0 = ap (λ (m : ℕ). m % (4 * f .channels)) l ∙ p .whole in
+        let h : 4 * f .channels ≤ length b = omega (arith, p .sized .least) in
+        record {
+          sound = λ ch. ap (λ (m : ℕ). soundBy f b m ch) t;
+          headers = sym (ap (fineBy f b) t);
+          whole = w;
+          headed = h;
+          samples = p .samples ∙ ap (imaSamples (f .channels)) (sym l);
+          long = λ ch i. ima-frames.sound-long (f .channels) b ch (taken-two f e) i w h;
+        }
 
-      pub ima-words : length b % (4 * f .channels) ≡ 0
-      ima-words = ap (λ (k : ℕ). k % (4 * f .channels)) l ∙ taken-ima f e n t .whole
+    pub by-microsoft : (f .tag ≡ 17 → ⊥) → BlockBy microsoft f b
+    unfolding channelSound blockValid
+    by-microsoft m =
+        let p = taken-microsoft f e n m in
+        record {
+          sound = λ ch. ap (λ (m : ℕ). soundBy f b m ch) (p .tag);
+          headers = sym (ap (fineBy f b) (p .tag));
+          whole = omega arith;
+          headed = omega (arith, p .sized .least);
+          samples = p .samples ∙ ap (msSamples (f .channels)) (sym l);
+          long = λ ch i. microsoft-frames.sound-long (f .channels) b ch i;
+        }
 
-      ima-samples : f .samples ≡ imaSamples (f .channels) (length b)
-      ima-samples = taken-ima f e n t .samples ∙ ap (imaSamples (f .channels)) (sym l)
+    pub ima-headers : f .tag ≡ 17 → 4 * f .channels ≤ length b
+    ima-headers t = by-ima t .headed
 
-      pub ima-within : {frames : ℕ} → frames ≤ f .samples → frames ≤ imaSamples (f .channels) (length b)
-      ima-within h = omega (arith, ima-samples)
-
-      pub ima-tested : {r : Bool} → r ≡ ima.imaHeadersValid (f .channels) b → r ≡ blockValid f b
-      ima-tested g = g ∙ fine-ima f b t
-
-      pub ima-valid : blockValid f b ≡ true → ima.imaHeadersValid (f .channels) b ≡ true
-      ima-valid g = fine-ima f b t ∙ g
-
-      pub ima-put : (frames : ℕ) {at : ℕ} {d d′ : List ℤ}
-          → Put d at (ima.imaFrames (f .channels) frames b) d′ → Put d at (blockFrames f frames b) d′
-      ima-put frames p = rw (sym (frames-ima f b frames t)) p
-
-    -- Microsoft
-    module _ (m : f .tag ≡ 17 → ⊥) where
-      two : f .tag ≡ 2
-      two = taken-microsoft f e n m .tag
-
-      pub microsoft-headers : 7 * f .channels ≤ length b
-      microsoft-headers = omega (arith, taken-microsoft f e n m .sized .least)
-
-      pub microsoft-predictors : f .channels ≤ length b
-      microsoft-predictors = omega (arith, taken-microsoft f e n m .sized .least)
-
-      microsoft-samples : f .samples ≡ msSamples (f .channels) (length b)
-      microsoft-samples = taken-microsoft f e n m .samples ∙ ap (msSamples (f .channels)) (sym l)
-
-      pub microsoft-within : {frames : ℕ} → frames ≤ f .samples
-          → frames ≤ msSamples (f .channels) (length b)
-      microsoft-within h = omega (arith, microsoft-samples)
-
-      pub microsoft-tested : {r : Bool} → r ≡ microsoft.msHeadersValid (f .channels) b → r ≡ blockValid f b
-      microsoft-tested g = g ∙ fine-microsoft f b two
-
-      pub microsoft-valid : blockValid f b ≡ true → microsoft.msHeadersValid (f .channels) b ≡ true
-      microsoft-valid g = fine-microsoft f b two ∙ g
-
-      pub microsoft-put : (frames : ℕ) {at : ℕ} {d d′ : List ℤ}
-          → Put d at (microsoft.msFrames (f .channels) frames b) d′ → Put d at (blockFrames f frames b) d′
-      microsoft-put frames p = rw (sym (frames-microsoft f b frames two)) p
+    pub microsoft-headers : (f .tag ≡ 17 → ⊥) → 7 * f .channels ≤ length b
+    microsoft-headers m = by-microsoft m .headed
 
   -- ---- its sound
   channel-long : (ch : ℕ) → ch < f .channels → length (channelSound f b ch) ≡ f .samples
   channel-long ch h =
       by-format f e (length (channelSound f b ch) ≡ f .samples)
       (λ t p. ap length (sound-pcm f b ch t) ∙ sym (p .samples))
-      (λ t p.
-      let n : f .tag ≡ 1 → ⊥ = λ k. omega arith in
-      ap length (sound-ima f b ch t)
-      ∙ ima-frames.sound-long (f .channels) b ch (taken-some f e) (taken-two f e) h (ima-words n t) (ima-headers n t)
-      ∙ sym (ima-samples n t))
-      (λ t p.
-      let n : f .tag ≡ 1 → ⊥ = λ k. omega arith in
-      let m : f .tag ≡ 17 → ⊥ = λ k. omega arith in
-      ap length (sound-microsoft f b ch t)
-      ∙ microsoft-frames.sound-long (f .channels) b ch h
-      ∙ sym (microsoft-samples n m))
+      (λ t p. sound-long (by-ima (λ k. omega arith) t) ch h)
+      (λ t p. sound-long (by-microsoft (λ k. omega arith) (λ k. omega arith)) ch h)
 
   abbrev sounds : List (List ℤ)
   sounds = values (channelSound f b) 0 (f .channels)
@@ -173,22 +153,8 @@ module _ (f : Format) (e : formatRule f ≡ true) (b : List ℕ) (l : length b �
 pub start-room : (f : Format) (n : ℕ) (d : List ℤ) → n * f .channels ≤ length d → 0 + f .channels * n ≤ length d
 start-room f n d r = omega (arith, mul-comm n (f .channels))
 
-pub ruleset testing =
-    (fine-pcm, taken-some, taken-two, ima-headers, ima-tested, microsoft-predictors, microsoft-tested)
+pub ruleset testing = (fine-pcm, taken-some, taken-two, by-ima, by-microsoft, ima-headers, microsoft-headers, headers-tested)
 
-pub ruleset decoding = (
-  wanted-tag,
-  taken-some,
-  taken-two,
-  ima-headers,
-  ima-words,
-  ima-within,
-  ima-valid,
-  ima-put,
-  microsoft-headers,
-  microsoft-within,
-  microsoft-valid,
-  microsoft-put,
-)
+pub ruleset decoding = (wanted-tag, by-ima, by-microsoft, frames-decodable, frames-put)
 
 pub ruleset single = (taken-samples, start-room, put-front)

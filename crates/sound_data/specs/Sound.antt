@@ -11,8 +11,9 @@ use Rattle.samples.specs.Sound.{sampleAt, eight}
 use Rattle.formats.specs.declared.Format.{Format}
 use Rattle.formats.specs.Format.{byTag}
 use Rattle.formats.specs.Frames.{needsFact, blocksIn}
-use Rattle.ima_block.specs.Block as ima
-use Rattle.ms_block.specs.Block as microsoft
+use Rattle.codec.specs.Codec.{channelHeard, headersValid}
+use Rattle.ima_block.specs.Block.{ima}
+use Rattle.ms_block.specs.Block.{microsoft}
 
 -- ---- a block of c channels; a PCM block is one frame
 
@@ -23,10 +24,7 @@ pcmSample bits b ch = cond (eqb bits 8) (eight (getD b ch 0)) (sampleAt b (2 * c
 -- the sound of channel ch of a block
 unfoldable pub channelSound : Format → List ℕ → ℕ → List ℤ
 channelSound f b ch =
-    byTag (f .tag) (pcmSample (f .bits) b ch ∷ [])
-    (ima.imaSound (ima.channelPart (f .channels) b ch))
-    (microsoft.msSound (f .channels) b ch)
-    []
+    byTag (f .tag) (pcmSample (f .bits) b ch ∷ []) (channelHeard ima (f .channels) b ch) (channelHeard microsoft (f .channels) b ch) []
 
 -- the first n frames of a block: one sample of each channel in turn
 unfoldable pub blockFrames : Format → ℕ → List ℕ → List ℤ
@@ -34,7 +32,7 @@ blockFrames f n b = inTurn 1 n (values (channelSound f b) 0 (f .channels))
 
 -- every header of a block has an index in range; PCM has no headers
 unfoldable pub blockValid : Format → List ℕ → Bool
-blockValid f b = byTag (f .tag) true (ima.imaHeadersValid (f .channels) b) (microsoft.msHeadersValid (f .channels) b) true
+blockValid f b = byTag (f .tag) true (headersValid ima (f .channels) b) (headersValid microsoft (f .channels) b) true
 
 -- ---- sound data w, which are blocks one after the other
 

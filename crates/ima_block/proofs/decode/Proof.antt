@@ -1,6 +1,6 @@
 -- One channel or two; what is required of the block is what its function asks.
 use borrow.Author.Needs.{needs}
-use Rattle.ima_block.proofs.Laws.{channels}
+use Rattle.codec.proofs.Channels.{channels}
 use Rattle.ima_block.proofs.decode.Statement.{statement}
 use Rattle.ima_block.proofs.decode.Tie as tie
 

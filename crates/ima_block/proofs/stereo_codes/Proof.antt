@@ -1,13 +1,13 @@
 -- As in mono, with a byte of each channel: every turn writes their four samples. The facts of the long body
 -- that a search does not reach are handed to it: the invariant and the test.
-use Rattle.ima_block.proofs.Codes.{Double, double}
+use Rattle.ima_block.proofs.Codes.{Stereo, double}
 use borrow.Author.Needs.{needs}
 use Rattle.ima_block.proofs.stereo_codes.Statement.{statement}
 use Rattle.ima_block.proofs.stereo_codes.Tie as tie
 
 abbrev Inv-loop : tie.InvT-loop
 Inv-loop block frames table held out₀ at l₀ r₀ n₀ to₀ i₀ out l r n to i =
-    Double block frames out₀ at l₀ r₀ out l r n to i
+    Stereo block frames out₀ at l₀ r₀ out l r n to i
 
 abbrev μ-loop : tie.MeasureT-loop
 μ-loop block frames table held out₀ at l₀ r₀ n₀ to₀ i₀ out l r n to i = n

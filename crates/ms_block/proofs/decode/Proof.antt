@@ -1,5 +1,5 @@
 -- One channel or two; what is required of the block is what its function asks.
-use Rattle.ms_block.proofs.Laws.{channels}
+use Rattle.codec.proofs.Channels.{channels}
 use borrow.Author.Needs.{needs}
 use Rattle.ms_block.proofs.decode.Statement.{statement}
 use Rattle.ms_block.proofs.decode.Tie as tie

@@ -1,0 +1,3 @@
+pub mod Heard
+pub mod Channels
+pub mod Loops
