@@ -6,17 +6,26 @@ ghost use lib.ListN.{length};
 ghost use Rattle.lists.specs.Among.{indexIn, distinct};
 ghost use Rattle.lists.specs.Every.{allBelow};
 
-// The first place of a number among others; where it is none of them, how many they are.
+// The first place of a number among others; where it is none of them, how many they are. Two of them
+// are looked at in a turn.
 pub fn find(numbers: &[u32], number: u32) -> usize
     ensures answer { λ r. ⌜ r ≡ indexIn number (now (numbers .entry)) ⌝ }
     ensures bound { λ r. ⌜ r ≤ length (now (numbers .entry)) ⌝ }
 {
     let mut i = 0;
-    while i < numbers.len() {
+    while i + 1 < numbers.len() {
         if numbers[i] == number {
             return i;
         }
-        i += 1;
+        if numbers[i + 1] == number {
+            return i + 1;
+        }
+        i += 2;
+    }
+    if i < numbers.len() {
+        if numbers[i] != number {
+            i += 1;
+        }
     }
     i
 }
