@@ -14,9 +14,9 @@ use Rattle.lists.specs.Turns.{values, inTurn}
 pub record Codec (S : Type 0) : Type 0 where
   -- the bytes of a channel's header
   pub header : ℕ
-  -- a block's bytes are a multiple of this, for c channels
+  -- what the bytes of a block of c channels are a multiple of
   pub unit : ℕ → ℕ
-  -- samples per block, for c channels and so many bytes
+  -- samples per block, of c channels and so many bytes
   pub samples : ℕ → ℕ → ℕ
   -- whether the header of channel ch is in range
   pub valid : ℕ → List ℕ → ℕ → Bool
@@ -28,7 +28,7 @@ pub record Codec (S : Type 0) : Type 0 where
   pub step : S → ℕ → S
   -- the sample that is heard of a state
   pub sample : S → ℤ
-  -- what the header says to be heard before it
+  -- the samples of a header that are heard before that of the state which it opens
   pub before : S → List ℤ
 
 -- ---- what is heard

@@ -2,7 +2,7 @@
 use mathlib.Core.Path.{_≡_, refl, sym, ap, _∙_, subst}
 use mathlib.Core.Bool.{Bool, true, false, not, cond, _&&_}
 use mathlib.Core.List.{List, []}
-use Prim.Native.Nat.{ℕ, zero, suc, _+_, _-_, _≤_, _<_}
+use Prim.Native.Nat.{ℕ, zero, suc, _+_, _-_, _*_, _/_, _≤_, _<_}
 use native.Mathlib.Nat.{le-of-lt}
 use native.Mathlib.Numerals.{add-one}
 use native.Mathlib.Omega.{arith}
@@ -45,23 +45,25 @@ module _ {x : ℕ} {ys : List ℕ} where
           let g = ap (λ (k : ℕ). indexIn x (drop k ys)) (add-one i) in
           record { room = omega arith; same = omega arith }
 
-  -- the number is the first of two, or the second, or neither; or one is left
-  module _ {i : ℕ} (w : Seeking x ys i) (h : i + 1 < length ys) where
-    pub seek-first : getD ys i 0 ≡ x → i ≡ indexIn x ys
-    seek-first e = seek-found w (omega arith) e
+  -- of the next two the number is the first, or the second, or neither; or one is left, or none
+  module _ {k : ℕ} (w : Seeking x ys (2 * k)) where
+    module _ (h : k < length ys / 2) where
+      pub seek-first : getD ys (2 * k) 0 ≡ x → 2 * k ≡ indexIn x ys
+      seek-first e = seek-found w (omega arith) e
 
-    pub seek-second : (getD ys i 0 ≡ x → ⊥) → getD ys (i + 1) 0 ≡ x → i + 1 ≡ indexIn x ys
-    seek-second n e = seek-found (seek-next w (omega arith) n) h e
+      module _ (n : getD ys (2 * k) 0 ≡ x → ⊥) where
+        pub seek-second : getD ys (2 * k + 1) 0 ≡ x → 2 * k + 1 ≡ indexIn x ys
+        seek-second e = seek-found (seek-next w (omega arith) n) (omega arith) e
 
-    pub seek-two : (getD ys i 0 ≡ x → ⊥) → (getD ys (i + 1) 0 ≡ x → ⊥) → Seeking x ys (i + 2)
-    seek-two n m =
-        let e : i + 1 + 1 ≡ i + 2 = omega arith in
-        subst (Seeking x ys) e (seek-next (seek-next w (omega arith) n) h m)
+        pub seek-neither : (getD ys (2 * k + 1) 0 ≡ x → ⊥) → Seeking x ys (2 * (k + 1))
+        seek-neither m =
+            let e : 2 * k + 1 + 1 ≡ 2 * (k + 1) = omega arith in
+            subst (Seeking x ys) e (seek-next (seek-next w (omega arith) n) (omega arith) m)
 
-  pub seek-last : {i : ℕ} → Seeking x ys i → i < length ys → length ys ≤ i + 1 → (getD ys i 0 ≡ x → ⊥) → i + 1 ≡ indexIn x ys
-  seek-last w h l n = seek-ends (seek-next w h n) l
+    pub seek-last : length ys / 2 ≤ k → 2 * k < length ys → (getD ys (2 * k) 0 ≡ x → ⊥) → 2 * k + 1 ≡ indexIn x ys
+    seek-last l h n = seek-ends (seek-next w h n) (omega arith)
 
-pub ruleset seeking = (seek-ends, seek-found, seek-first, seek-second, seek-two, seek-last)
+pub ruleset seeking = (seek-ends, seek-found, seek-first, seek-second, seek-neither, seek-last)
 
 -- ---- none of the first i stands in the list again
 pub record Differing (ys : List ℕ) (i : ℕ) : Type 0 where

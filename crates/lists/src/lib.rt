@@ -12,19 +12,21 @@ pub fn find(numbers: &[u32], number: u32) -> usize
     ensures answer { λ r. ⌜ r ≡ indexIn number (now (numbers .entry)) ⌝ }
     ensures bound { λ r. ⌜ r ≤ length (now (numbers .entry)) ⌝ }
 {
-    let mut i = 0;
-    while i + 1 < numbers.len() {
-        if numbers[i] == number {
-            return i;
+    let pairs = numbers.len() / 2;
+    let mut k = 0;
+    while k < pairs {
+        if numbers[2 * k] == number {
+            return 2 * k;
         }
-        if numbers[i + 1] == number {
-            return i + 1;
+        if numbers[2 * k + 1] == number {
+            return 2 * k + 1;
         }
-        i += 2;
+        k += 1;
     }
+    let i = 2 * k;
     if i < numbers.len() {
         if numbers[i] != number {
-            i += 1;
+            return i + 1;
         }
     }
     i
