@@ -1,6 +1,6 @@
 -- An IMA block: the part of each channel, its header and its codes. Assumes nothing.
 use Prim.Native.Nat.{ℕ, _*_, _/_}
-use mathlib.Core.List.{List, [], _∷_}
+use mathlib.Core.List.{List, []}
 use lib.Dec.{leb}
 use lib.ListN.{length, drop, getD}
 use Rattle.lists.specs.Turns.{picked}
