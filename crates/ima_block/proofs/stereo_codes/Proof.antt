@@ -1,6 +1,6 @@
 -- As in mono, with a byte of each channel: every turn writes their four samples. The facts of the long body
 -- that a search does not reach are handed to it: the invariant and the test.
-use Rattle.ima_block.proofs.Codes.{Stereo, double}
+use Rattle.ima_block.proofs.Codes.{Stereo, stereo-turn, double}
 use borrow.Author.Needs.{needs}
 use Rattle.ima_block.proofs.stereo_codes.Statement.{statement}
 use Rattle.ima_block.proofs.stereo_codes.Tie as tie
@@ -32,6 +32,11 @@ slice-set-from-y-2 c =
     let d = c .before .before .before .before .before .before in
     search (needs, double, d .before .before .loop .inv, d .if1 .taken)
 
+loop-again : tie.Need-loop-again Inv-loop μ-loop
+loop-again c =
+    let w = c .before .before .before .before .before .before .before .before .before .before .before .loop .inv in
+    search (w, stereo-turn)
+
 pub stereo-codes-spec : {M : Type 1} → statement M
 stereo-codes-spec =
     tie.close
@@ -44,7 +49,7 @@ stereo-codes-spec =
     (λ c. search (needs, double)) (λ c. search (needs, double)) slice-set-from-y (λ c. search (needs, double))
     (λ c. search (needs, double)) slice-set-from-z (λ c. search (needs, double)) (λ c. search (needs, double))
     slice-set-from-w (λ c. search (needs, double)) (λ c. search (needs, double)) (λ c. search (needs, double))
-    (λ c. search (needs, double)) (λ c. search (needs, double)) (λ c. search (needs, double))
+    loop-again (λ c. search (needs, double)) (λ c. search (needs, double))
     (λ c. search (needs, double)) (λ c. search (needs, double)) (λ c. search (needs, double))
     (λ c κs. search (needs, double)) (λ c. search (needs, double)) (λ c. search (needs, double))
     (λ c. search (needs, double)) (λ c κs. search (needs, double)) (λ c. search (needs, double))
