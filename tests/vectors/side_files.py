@@ -15,7 +15,7 @@ from second import side as second_side, writer as second_writer
 from second.writer import Record
 from vectors import many_files
 from vectors.wave_files import chunk, cue, data, entry, fact, fmt, ima, microsoft, plst, point, wave
-from vectors.writer_records import answer_lines, damaged, hexed
+from vectors.writer_records import answer_lines, damaged, hexed, spelled
 
 MOST = 2**32 - 1
 ROOM = 16384
@@ -122,7 +122,7 @@ def size(songs, frames, channels=1):
 def starts():
     """Empty sides: refusals 9 and 14, and the nearest that are made."""
     for channels, rate, form in ((1, 8000, MONO), (2, 44100, STEREO)):
-        meant = bytes.fromhex(f'52494646 24000000 57415645 666d7420 {form} 64617461 00000000')
+        meant = spelled(f"'RIFF' 24000000 'WAVE' 'fmt ' {form} 'data' 00000000")
         if second_side.empty(channels, rate) != ('bytes', meant):
             raise ValueError(f'an empty side by hand is{hexed(meant)}')
         yield starting(f'an empty side, channels {channels}, rate {rate}', 44, channels, rate)
@@ -141,36 +141,36 @@ def starts():
 
 def by_hand():
     """Label, side, song, number and limit; and the whole file behind `RIFF`, byte by byte."""
-    code, zeros = '64617461', '00000000 00000000'
+    code, zeros = "'data'", '00000000 00000000'
     seven, sound = f'07000000 00000000 {code} {zeros} 00000000', '01080f16 1d242b32'
     first = wave(fmt(), chunk(b'data', bytes.fromhex(sound)))
     yield 'the example of document 01', wave(fmt(), data(0)), first, 7, 4, \
-        f'68000000 57415645 666d7420 {MONO} 63756520 1c000000 01000000 {seven} ' \
-        f'706c7374 10000000 01000000 07000000 04000000 01000000 {code} 08000000 {sound}'
+        f"68000000 'WAVE' 'fmt ' {MONO} 'cue ' 1c000000 01000000 {seven} " \
+        f"'plst' 10000000 01000000 07000000 04000000 01000000 {code} 08000000 {sound}"
     yield 'a second song on the example', tabled([(7, 0)], [(7, 4)], sound=first[36:]), \
         wave(fmt(), chunk(b'data', b'\xff\x7f\0\x80')), 300, 6, \
-        f'90000000 57415645 666d7420 {MONO} ' \
-        f'63756520 34000000 02000000 {seven} 2c010000 04000000 {code} {zeros} 04000000 ' \
-        f'706c7374 1c000000 02000000 07000000 04000000 01000000 2c010000 02000000 01000000 ' \
+        f"90000000 'WAVE' 'fmt ' {MONO} " \
+        f"'cue ' 34000000 02000000 {seven} 2c010000 04000000 {code} {zeros} 04000000 " \
+        f"'plst' 1c000000 02000000 07000000 04000000 01000000 2c010000 02000000 01000000 " \
         f'{code} 0c000000 {sound} ff7f0080'
     own = cue(point(1, 0), point(MOST, 0, 3)), plst(entry(1, 1, 9))
     rich = wave(ODD, fmt(channels=2, rate=44100, more=b'\1\0x'), TITLE, fact(77), data(4), *own)
     yield 'stereo, and a song with chunks of its own', \
         wave(TITLE, fmt(channels=2, rate=44100), fact(9), ODD, data(0)), rich, MOST, 1, \
-        f'64000000 57415645 666d7420 {STEREO} 63756520 1c000000 01000000 ffffffff 00000000 {code} {zeros} 00000000 ' \
-        f'706c7374 10000000 01000000 ffffffff 01000000 01000000 {code} 04000000 01080f16'
+        f"64000000 'WAVE' 'fmt ' {STEREO} 'cue ' 1c000000 01000000 ffffffff 00000000 {code} {zeros} 00000000 " \
+        f"'plst' 10000000 01000000 ffffffff 01000000 01000000 {code} 04000000 01080f16"
     far = wave(plst(entry(9, 1)), fmt(), data(2), cue(point(9, 0, MOST)))
     yield 'an old position, far away', far, wave(fmt(), data(2)), 0, MOST, \
-        f'88000000 57415645 666d7420 {MONO} ' \
-        f'63756520 34000000 02000000 09000000 ffffffff {code} {zeros} 00000000 ' \
+        f"88000000 'WAVE' 'fmt ' {MONO} " \
+        f"'cue ' 34000000 02000000 09000000 ffffffff {code} {zeros} 00000000 " \
         f'00000000 01000000 {code} {zeros} 01000000 ' \
-        f'706c7374 1c000000 02000000 09000000 01000000 01000000 00000000 01000000 01000000 {code} 04000000 01080108'
+        f"'plst' 1c000000 02000000 09000000 01000000 01000000 00000000 01000000 01000000 {code} 04000000 01080108"
 
 
 def examples():
     """Whole files; the first is the one whose listing document 01 prints."""
     for label, old, new, number, limit, rest in by_hand():
-        meant = bytes.fromhex(f'52494646 {rest}')
+        meant = spelled(f"'RIFF' {rest}")
         if second_side.add(old, new, number, limit, len(meant)) != ('bytes', meant):
             raise ValueError(f'{label}: by hand it is{hexed(meant)}')
         yield adding(label, len(meant), old, new, number, limit)

@@ -140,6 +140,32 @@ def the_walk():
     yield 'no data, and a fmt that breaks its rule', wave(fmt(tag=3)), refused(8)
 
 
+def nearly(code):
+    """Four letters that are almost a code: one of them by the case bit another, two exchanged, all in reverse."""
+    for k in range(4):
+        yield code[:k] + bytes([code[k] ^ 32]) + code[k + 1:]
+    yield code[:1] + code[2:0:-1] + code[3:]
+    yield code[::-1]
+
+
+def letters():
+    """Each code counts where all its letters stand in their order, and nowhere else."""
+    points, plays = struct.pack('<I', 1) + point(7, 0), struct.pack('<I', 1) + entry(7, 4)
+    codes = [('RIFF', lambda code: wave(fmt(), data(), code=code), refused(2)),
+             ('WAVE', lambda code: wave(fmt(), data(), form=code), refused(2)),
+             ('fmt ', lambda code: wave(chunk(code, fmt()[8:]), data()), refused(6)),
+             ('data', lambda code: wave(fmt(), chunk(code, bytes(8))), refused(8)),
+             ('fact', lambda code: wave(ima(), chunk(code, fact(1)[8:]), data()), refused(11)),
+             ('cue ', lambda code: wave(fmt(), chunk(code, points), plst(entry(7, 4)), data()), refused(13)),
+             ('plst', lambda code: wave(fmt(), cue(point(7, 0)), chunk(code, plays), data()), EXAMPLE[:2]),
+             ('LIST', lambda code: wave(fmt(), chunk(code, b'wavl'), data()), pcm()),
+             ('wavl', lambda code: wave(fmt(), chunk(b'LIST', code), data()), pcm()),
+             ('data in a cue', lambda code: wave(fmt(), cue(point(7, 0, code=code)), data()), refused(12))]
+    for label, file, expected in codes:
+        for other in nearly(label[:4].encode()):
+            yield f'{other.decode()!r} for {label}', file(other), expected
+
+
 def formats():
     """Refusal 9: channels, rate, tag and the rules of fmt; and the nearest formats that are taken."""
     yield 'fmt of 14 bytes', wave(chunk(b'fmt ', fmt()[8:22]), data()), refused(9)
@@ -325,7 +351,8 @@ def playlists():
 def all_files():
     """Label, bytes and expected lines of each file."""
     yield 'the example of document 01', example(), EXAMPLE
-    for group in (lengths_and_codes, the_walk, formats, ima_formats, microsoft_formats, frames, cue_tables, playlists):
+    for group in (lengths_and_codes, the_walk, letters, formats, ima_formats, microsoft_formats, frames, cue_tables,
+                  playlists):
         yield from group()
 
 

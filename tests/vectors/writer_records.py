@@ -37,6 +37,11 @@ def hexed(data):
     return ''.join(f' {byte:02x}' for byte in data)
 
 
+def spelled(text):
+    """The bytes that a text spells: the letters of codes stand in quotes, everything else is in hex."""
+    return b''.join(part.encode() if turn % 2 else bytes.fromhex(part) for turn, part in enumerate(text.split("'")))
+
+
 def sound_of(n):
     """Sound that tells its places apart; nothing here looks into it."""
     return bytes((7 * i + 1) % 251 for i in range(n))
@@ -94,16 +99,16 @@ def examples():
     ima17 = '14000000 1100 0100 401f0000 c71b0000 0800 0400 0200 0900'
     pairs = '0001 0000 0002 00ff 0000 0000 c000 4000 f000 0000 cc01 30ff 8801 18ff'
     microsoft2 = f'32000000 0200 0200 22560000 da240100 1100 0400 2000 0500 0700 {pairs}'
-    fact = '66616374 04000000 05000000'
-    cue = '63756520 1c000000 01000000 07000000 00000000 64617461 00000000 00000000 00000000'
-    plst = '706c7374 10000000 01000000 07000000 04000000 01000000'
-    far = '63756520 1c000000 01000000 2c010000 0f270000 64617461 00000000 00000000 04000000'
-    often = '706c7374 10000000 01000000 2c010000 01000000 ffffffff'
-    data = '64617461 08000000 01080f16 1d242b32'
-    odd = '64617461 11000000 01080f16 1d242b32 3940474e 555c636a 71 00'
+    fact = "'fact' 04000000 05000000"
+    cue = "'cue ' 1c000000 01000000 07000000 00000000 'data' 00000000 00000000 00000000"
+    plst = "'plst' 10000000 01000000 07000000 04000000 01000000"
+    far = "'cue ' 1c000000 01000000 2c010000 0f270000 'data' 00000000 00000000 04000000"
+    often = "'plst' 10000000 01000000 2c010000 01000000 ffffffff"
+    data = "'data' 08000000 01080f16 1d242b32"
+    odd = "'data' 11000000 01080f16 1d242b32 3940474e 555c636a 71 00"
     stored = [
-        (writing('8-bit mono, no sound: 44 bytes', 44, pcm(bits=8), 0), '24000000', f'{form8} 64617461 00000000'),
-        (writing('8-bit mono, one byte: 46 bytes', 46, pcm(bits=8), 1), '26000000', f'{form8} 64617461 01000000 01 00'),
+        (writing('8-bit mono, no sound: 44 bytes', 44, pcm(bits=8), 0), '24000000', f"{form8} 'data' 00000000"),
+        (writing('8-bit mono, one byte: 46 bytes', 46, pcm(bits=8), 1), '26000000', f"{form8} 'data' 01000000 01 00"),
         (writing('the example of document 01', 112, pcm(), cues=ONE, plays=[(7, 4, 1)]),
          '68000000', f'{form16} {cue} {plst} {data}'),
         (writing('an IMA block, five frames', 68, ima(), 8, 5), '3c000000', f'{ima17} {fact} {data}'),
@@ -113,7 +118,7 @@ def examples():
          '64000000', f'{microsoft2} {fact} {odd}'),
     ]
     for (made, lines), size, rest in stored:
-        if lines[2] != 'file' + hexed(bytes.fromhex(f'52494646 {size} 57415645 666d7420 {rest}')):
+        if lines[2] != 'file' + hexed(spelled(f"'RIFF' {size} 'WAVE' 'fmt ' {rest}")):
             raise ValueError(f'by hand it is {size} {rest}, the second writer says {lines}')
         yield made, lines
     yield writing('IMA mono, align 256: 505 samples', 316, ima(1, 256, 505), 256, 505)

@@ -1,23 +1,23 @@
 -- What is read where bytes were laid: a number, a code, a chunk. The bytes at a place are `drop at s`. Assumes nothing.
 use mathlib.Core.Path.{_≡_, refl, sym, ap, _∙_}
-use mathlib.Core.Bool.{true}
 use mathlib.Core.List.{List, _++_, append-assoc}
 use Prim.Native.Nat.{ℕ, _+_, _%_, _≤_, _<_}
 use native.Mathlib.Omega.{arith}
-use lib.Dec.{lit<}
 use lib.ListN.{length, take, drop, length-append, length-drop}
 use lib.Seq.{take-at, drop-at, drop-drop}
-use borrow.Author.Tests.{eq-eqb}
 use Rattle.little.specs.Numbers.{numberIn, numberAt, bytesOf}
+use Rattle.little.specs.Same.{sameBytes}
 use Rattle.little.proofs.Reading.{number-first}
-use Rattle.codes.specs.Codes.{codeNumber, isAt, codeBytes}
+use Rattle.codes.specs.Codes.{codeBytes, isAt}
+use Rattle.codes.proofs.Bytes.{length-code}
+use Rattle.codes.proofs.Laws.{laid-code}
 use Rattle.codes.specs.declared.Code.{Code}
 use Rattle.codes.specs.declared.Code.the-variants as code
 use Rattle.riff.specs.declared.Kind.{Kind}
 use Rattle.riff.specs.declared.Kind.the-variants.{Format, Sound, Fact, Cues, Plays, Listing, Other}
 use Rattle.riff.specs.Chunks.{kindAt}
 use Rattle.riff.specs.Laying.{piece, headBytes, padBytes, pieceBytes}
-use Rattle.riff.proofs.Laying.{length-code, length-head, length-pad, length-piece}
+use Rattle.riff.proofs.Laying.{length-head, length-pad, length-piece}
 
 -- ---- at a place
 module _ (s : List ℕ) (at : ℕ) where
@@ -30,17 +30,6 @@ module _ (s : List ℕ) (at : ℕ) where
   number-laid v ys h e = ap (λ (l : List ℕ). numberIn (take 4 l)) e ∙ number-first 4 v ys h
 
 -- ---- a code
-code-fits : (c : Code) → codeNumber c < 4294967296
-code-fits code.Riff = lit< tt
-code-fits code.Wave = lit< tt
-code-fits code.Format = lit< tt
-code-fits code.Data = lit< tt
-code-fits code.Fact = lit< tt
-code-fits code.Cue = lit< tt
-code-fits code.Playlist = lit< tt
-code-fits code.Listing = lit< tt
-code-fits code.WaveList = lit< tt
-
 -- what a chunk with a code is to the walk
 abbrev pub kindOf : Code → Kind
 kindOf code.Riff = Other
@@ -54,28 +43,20 @@ kindOf code.Listing = Listing
 kindOf code.WaveList = Other
 
 module _ (s : List ℕ) (at : ℕ) where
-  pub code-laid : (c : Code) (ys : List ℕ) → drop at s ≡ codeBytes c ++ ys → numberAt 4 s at ≡ codeNumber c
-  unfolding codeBytes
-  code-laid c ys e = number-laid s at (codeNumber c) ys (code-fits c) e
-
-  pub stands : (c : Code) (ys : List ℕ) → drop at s ≡ codeBytes c ++ ys → isAt s at c ≡ true
-  unfolding isAt
-  stands c ys e = eq-eqb (numberAt 4 s at) (codeNumber c) (code-laid c ys e)
-
-  kind-by : (c : Code) → numberAt 4 s at ≡ codeNumber c → kindAt s at ≡ kindOf c
-  unfolding kindAt isAt
-  kind-by code.Riff e = simp e
-  kind-by code.Wave e = simp e
-  kind-by code.Format e = simp e
-  kind-by code.Data e = simp e
-  kind-by code.Fact e = simp e
-  kind-by code.Cue e = simp e
-  kind-by code.Playlist e = simp e
-  kind-by code.Listing e = simp e
-  kind-by code.WaveList e = simp e
+  kind-by : (c : Code) → ((d : Code) → isAt s at d ≡ sameBytes (codeBytes c) (codeBytes d)) → kindAt s at ≡ kindOf c
+  unfolding kindAt codeBytes sameBytes
+  kind-by code.Riff h = simp h
+  kind-by code.Wave h = simp h
+  kind-by code.Format h = simp h
+  kind-by code.Data h = simp h
+  kind-by code.Fact h = simp h
+  kind-by code.Cue h = simp h
+  kind-by code.Playlist h = simp h
+  kind-by code.Listing h = simp h
+  kind-by code.WaveList h = simp h
 
   pub kind-laid : (c : Code) (ys : List ℕ) → drop at s ≡ codeBytes c ++ ys → kindAt s at ≡ kindOf c
-  kind-laid c ys e = kind-by c (code-laid c ys e)
+  kind-laid c ys e = kind-by c (laid-code s at c ys e)
 
 -- ---- a chunk
 module _ (s : List ℕ) (at : ℕ) (c : Code) (bytes rest : List ℕ) (e : drop at s ≡ pieceBytes (piece c bytes) ++ rest) where

@@ -10,6 +10,8 @@ use Rattle.units.specs.Refusals.{fileLimit}
 use Rattle.little.specs.Numbers.{numberAt, bytesOf}
 use Rattle.little.proofs.Reading.{length-bytes}
 use Rattle.codes.specs.Codes.{codeBytes}
+use Rattle.codes.proofs.Bytes.{length-code}
+use Rattle.codes.proofs.Laws.{stands}
 use Rattle.codes.specs.declared.Code.{Code}
 use Rattle.codes.specs.declared.Code.the-variants.{Riff, Wave, Format, Data, Fact, Cue, Playlist}
 use Rattle.units.specs.declared.Verdict.the-variants.{Accepted}
@@ -25,8 +27,8 @@ use Rattle.riff.specs.Demands.{Reads}
 use Rattle.riff.proofs.Heading.{head-right}
 use Rattle.riff.proofs.Placing.{place-whole, step-on}
 use Rattle.riff.proofs.Walking.{Rest, walk-begins, walk-on, walk-ends, open-walks}
-use Rattle.riff.proofs.Laying.{length-code, length-file, even-body}
-use Rattle.riff.proofs.Found.{behind, number-laid, stands, kindOf, kind-there, size-there, bytes-there, rest-there, fits-there}
+use Rattle.riff.proofs.Laying.{length-file, even-body}
+use Rattle.riff.proofs.Found.{behind, number-laid, kindOf, kind-there, size-there, bytes-there, rest-there, fits-there}
 
 -- ---- the header
 module _ (ps : List Piece) where

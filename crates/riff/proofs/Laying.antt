@@ -9,14 +9,11 @@ use Rattle.little.specs.Numbers.{bytesOf}
 use Rattle.little.specs.Writing.{Put}
 use Rattle.little.proofs.Filling.{put-next}
 use Rattle.little.proofs.Reading.{length-bytes}
-use Rattle.codes.specs.Codes.{codeNumber, codeBytes}
+use Rattle.codes.specs.Codes.{codeBytes}
+use Rattle.codes.proofs.Bytes.{length-code}
 use Rattle.codes.specs.declared.Code.{Code}
 use Rattle.codes.specs.declared.Code.the-variants.{Riff, Wave, Format, Data, Fact, Cue, Playlist}
 use Rattle.riff.specs.Laying.{Piece, piece, headBytes, padBytes, pieceBytes, extent, bodyBytes, riffBytes, fileBytes, Part, Parts, given, extentIf, piecesOf}
-
-pub length-code : (c : Code) → length (codeBytes c) ≡ 4
-unfolding codeBytes
-length-code c = length-bytes 4 (codeNumber c)
 
 pub length-head : (c : Code) (n : ℕ) → length (headBytes c n) ≡ 8
 unfolding headBytes

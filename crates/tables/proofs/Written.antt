@@ -8,7 +8,8 @@ use lib.Dec.{leb, eqb}
 use lib.ListN.{length, drop, getD}
 use borrow.Author.Tests.{eq-eqb, leb-true, eqb-true}
 use Rattle.little.specs.Numbers.{numberIn, numberAt, bytesOf}
-use Rattle.codes.specs.Codes.{codeNumber, codeBytes, isAt}
+use Rattle.codes.specs.Codes.{codeBytes}
+use Rattle.codes.proofs.Laws.{stands, dropped-code}
 use Rattle.codes.specs.declared.Code.the-variants.{Data}
 use Rattle.lists.specs.Every.{every}
 use Rattle.lists.proofs.Laws.{every-all, and-both}
@@ -26,12 +27,12 @@ use Rattle.tables.proofs.Back.{there, count-said, entry-said}
 
 -- ---- every cue that is written counts from the start of the data
 plain-from : (s : List ℕ) (at : ℕ) → plainCue s at ≡ plainCue (drop at s) 0
-unfolding plainCue isAt
-plain-from s at = λ i. eqb (there s at 4 8 i) (codeNumber Data) && eqb (there s at 4 12 i) 0 && eqb (there s at 4 16 i) 0
+unfolding plainCue
+plain-from s at = λ i. dropped-code s at 8 Data i && eqb (there s at 4 12 i) 0 && eqb (there s at 4 16 i) 0
 
 plain-written : (c : Cue) (rest : List ℕ) → plainCue (cueBytes c ++ rest) 0 ≡ true
-unfolding plainCue isAt cueBytes codeBytes bytesOf numberAt numberIn
-plain-written c rest = refl
+unfolding plainCue cueBytes codeBytes bytesOf numberAt numberIn
+plain-written c rest = λ i. stands (cueBytes c ++ rest) 8 Data (drop 12 (cueBytes c ++ rest)) refl i && true && true
 
 -- ---- the count that is written
 module _ {c : Cues} (f : CuesFit c) where
