@@ -270,12 +270,14 @@ def as_before(folder):
 def caught(words, folder, number):
     """Ends a run by a signal while it writes; what it ends with. One that was too quick is started again.
 
-    A file may be written in a few thousandths of a second: so the look-out does not sleep, and has many tries.
+    A file may be written in a few thousandths of a second: so the look-out does not sleep, and has many tries. The run
+    heeds the signal, even where these tests themselves are to outlive it.
     """
+    heeded = {'preexec_fn': lambda: signal.signal(number, signal.SIG_DFL)} if number != signal.SIGKILL else {}
     last = time.monotonic() + 180
     while time.monotonic() < last:
         as_before(folder)
-        with start([*HOST, *words], folder) as running:
+        with start([*HOST, *words], folder, **heeded) as running:
             while running.poll() is None and not has_begun(folder):
                 pass
             running.send_signal(number)
