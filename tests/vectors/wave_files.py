@@ -141,7 +141,7 @@ def the_walk():
 
 
 def nearly(code):
-    """Four letters that are almost a code: one of them by the case bit another, two exchanged, all in reverse."""
+    """Four letters that are almost a code: one with its case bit turned, the middle two exchanged, all in reverse."""
     for k in range(4):
         yield code[:k] + bytes([code[k] ^ 32]) + code[k + 1:]
     yield code[:1] + code[2:0:-1] + code[3:]

@@ -22,19 +22,20 @@ use Rattle.codes.specs.Codes.{codeBytes, isAt}
 use Rattle.codes.proofs.Bytes.{length-code, code-bytes, last-letter}
 
 module _ (s : List ℕ) (at : ℕ) where
-  -- the four bytes at a place are a code's letters
+  -- where a code stands, the four bytes are its letters
   pub letters-there : (c : Code) → isAt s at c ≡ true → take 4 (drop at s) ≡ codeBytes c
   unfolding isAt
   letters-there c = same-says (take 4 (drop at s)) (codeBytes c)
 
-  there-letters : (c : Code) → take 4 (drop at s) ≡ codeBytes c → (d : Code) → isAt s at d ≡ sameBytes (codeBytes c) (codeBytes d)
+  -- where four bytes are a code's letters, another code stands if its letters are the same
+  same-there : (c : Code) → take 4 (drop at s) ≡ codeBytes c → (d : Code) → isAt s at d ≡ sameBytes (codeBytes c) (codeBytes d)
   unfolding isAt
-  there-letters c e d = ap (λ (l : List ℕ). sameBytes l (codeBytes d)) e
+  same-there c e d = ap (λ (l : List ℕ). sameBytes l (codeBytes d)) e
 
-  -- where a code was laid, it stands, and another where it has the same letters
+  -- the same where a code was laid
   pub laid-code : (c : Code) (ys : List ℕ) → drop at s ≡ codeBytes c ++ ys
       → (d : Code) → isAt s at d ≡ sameBytes (codeBytes c) (codeBytes d)
-  laid-code c ys e = there-letters c (ap (take 4) e ∙ take-at (codeBytes c) ys 4 (length-code c))
+  laid-code c ys e = same-there c (ap (take 4) e ∙ take-at (codeBytes c) ys 4 (length-code c))
 
   pub stands : (c : Code) (ys : List ℕ) → drop at s ≡ codeBytes c ++ ys → isAt s at c ≡ true
   stands c ys e = laid-code c ys e c ∙ same-itself (codeBytes c)
@@ -53,7 +54,7 @@ word-back : (c : Code) → bytesOf 4 (numberIn (codeBytes c)) ≡ codeBytes c
 word-back c = subst (λ (n : ℕ). bytesOf n (numberIn (codeBytes c)) ≡ codeBytes c) (length-code c) (said-bytes (codeBytes c) (code-bytes c))
 
 module _ (s : List ℕ) (at : ℕ) (c : Code) (b : (k : ℕ) → Fits w8 (getD s k 0)) where
-  -- the word of a code does not stand where bytes past the end are its last
+  -- where the word of a code is read, all its four bytes are there: past the end its last letter would be zero
   room : numberAt 4 s at ≡ numberIn (codeBytes c) → at + 4 ≤ length s
   room e = by (leb (at + 4) (length s)) refl
     where
@@ -79,7 +80,7 @@ module _ (s : List ℕ) (at : ℕ) (c : Code) (b : (k : ℕ) → Fits w8 (getD s
       by : (t : Bool) → eqb (numberAt 4 s at) (numberIn (codeBytes c)) ≡ t → isAt s at c ≡ t
       by true h =
           let e = eqb-true (numberAt 4 s at) (numberIn (codeBytes c)) h in
-          there-letters s at c (sym (bytes-at 4 s at (room e) b) ∙ ap (bytesOf 4) e ∙ word-back c) c
+          same-there s at c (sym (bytes-at 4 s at (room e) b) ∙ ap (bytesOf 4) e ∙ word-back c) c
           ∙ same-itself (codeBytes c)
       by false h =
           sym (same-not (take 4 (drop at s)) (codeBytes c) (λ e. eqb-false (numberAt 4 s at) (numberIn (codeBytes c)) h (ap numberIn e)))
