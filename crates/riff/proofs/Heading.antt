@@ -2,7 +2,7 @@
 use mathlib.Core.Path.{_≡_, sym, _∙_}
 use mathlib.Core.Bool.{Bool, true, false}
 use mathlib.Core.List.{List}
-use Prim.Native.Nat.{ℕ, _+_, _%_, _≤_, _<_}
+use Prim.Native.Nat.{ℕ, _+_, _≤_, _<_}
 use lib.ListN.{length}
 use borrow.Author.Tests.{not-true, not-false}
 use Rattle.units.specs.Refusals.{fileLimit}
@@ -36,17 +36,12 @@ module _ (s : List ℕ) where
         head-no-wave u = simp (tests, sym e ∙ t, sym f ∙ u)
 
         module _ (u : b ≡ true) {n : ℕ} (v : n ≡ numberAt 4 s 4) where
-          pub head-odd : (n % 2 ≡ 0 → ⊥) → Refused RiffSizeWrong ≡ headVerdict s
+          pub head-other : (8 + n ≡ length s → ⊥) → Refused RiffSizeWrong ≡ headVerdict s
           unfolding headVerdict decided
-          head-odd o = simp (tests, sym e ∙ t, sym f ∙ u, ← v)
+          head-other l = simp (tests, sym e ∙ t, sym f ∙ u, ← v)
 
-          module _ (o : n % 2 ≡ 0) where
-            pub head-other : (8 + n ≡ length s → ⊥) → Refused RiffSizeWrong ≡ headVerdict s
-            unfolding headVerdict decided
-            head-other l = simp (tests, sym e ∙ t, sym f ∙ u, ← v)
+          pub head-right : 8 + n ≡ length s → Accepted ≡ headVerdict s
+          unfolding headVerdict decided
+          head-right l = simp (tests, sym e ∙ t, sym f ∙ u, ← v)
 
-            pub head-right : 8 + n ≡ length s → Accepted ≡ headVerdict s
-            unfolding headVerdict decided
-            head-right l = simp (tests, sym e ∙ t, sym f ∙ u, ← v)
-
-pub ruleset heading = (head-short, head-long, head-no-riff, head-no-wave, head-odd, head-other, head-right, not-true, not-false)
+pub ruleset heading = (head-short, head-long, head-no-riff, head-no-wave, head-other, head-right, not-true, not-false)

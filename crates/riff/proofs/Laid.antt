@@ -15,19 +15,21 @@ use Rattle.codes.proofs.Laws.{stands}
 use Rattle.codes.specs.declared.Code.{Code}
 use Rattle.codes.specs.declared.Code.the-variants.{Riff, Wave, Format, Data, Fact, Cue, Playlist}
 use Rattle.units.specs.declared.Verdict.the-variants.{Accepted}
+use Rattle.riff.specs.declared.Pad.{Pad}
 use Rattle.riff.specs.declared.Place.{Place}
 use Rattle.riff.specs.declared.Spot.{Spot}
 use Rattle.riff.specs.declared.Spot.the-variants.{At, Missing}
 use Rattle.riff.specs.declared.Directory.{Directory}
 use Rattle.riff.specs.declared.Walked.the-variants.{Whole}
-use Rattle.riff.specs.Chunks.{headVerdict, spotOf, isThere, directory, keep, early, waveList}
+use Rattle.riff.specs.Chunks.{headVerdict, padAfter, padSize, spotOf, isThere, directory, keep, early, waveList}
 use Rattle.riff.specs.Walk.{nothingYet, walkOf, partOf}
 use Rattle.riff.specs.Laying.{Piece, piece, headBytes, bodyBytes, riffBytes, fileBytes, Part, Parts, given, piecesOf}
 use Rattle.riff.specs.Demands.{Reads}
 use Rattle.riff.proofs.Heading.{head-right}
+use Rattle.riff.proofs.Padding.{next-place}
 use Rattle.riff.proofs.Placing.{place-whole, step-on}
 use Rattle.riff.proofs.Walking.{Rest, walk-begins, walk-on, walk-ends, open-walks}
-use Rattle.riff.proofs.Laying.{length-file, even-body}
+use Rattle.riff.proofs.Laying.{length-file}
 use Rattle.riff.proofs.Found.{behind, number-laid, kindOf, kind-there, size-there, bytes-there, rest-there, fits-there}
 
 -- ---- the header
@@ -58,7 +60,7 @@ module _ (ps : List Piece) where
       let l = length-file ps in
       let n : size ≡ numberAt 4 file 4 = sym (number-laid file 4 size _ (omega arith) after-riff) in
       head-right file (omega arith) limit (sym (stands file 0 Riff _ in-parts)) refl (sym (stands file 8 Wave _ after-size)) refl n
-      (omega (arith, even-body ps)) (omega arith)
+      (omega arith)
 
 -- ---- the walk of s stands at a place with the directory d, and the chunks ps are left
 record Stand (s : List ℕ) (at : ℕ) (d : Directory) (ps : List Piece) : Type 0 where
@@ -84,11 +86,17 @@ module _ (s : List ℕ) (limit : length s ≤ fileLimit) {R : Type 0} where
       let f = fits-there s at c bytes (bodyBytes ps) (w .left) (w .upto) in
       let b = size-there s at c bytes (bodyBytes ps) (w .left) (omega arith) in
       let k = kind-there s at c bytes (bodyBytes ps) (w .left) in
-      let p : Place = record { kind = kindOf c; start = record { 0 = at + 8 }; size = record { 0 = n }; next = record { 0 = at + 8 + n + n % 2 } } in
-      let a = place-whole s (record { 0 = at }) (omega arith) (omega arith) (sym b) f (sym k) in
+      let x : Pad = padAfter n (at + 8 + n) (length s) in
+      let e : at + 8 + n + padSize x ≡ at + 8 + n + n % 2 = omega (arith, next-place n (at + 8 + n) (length s) (omega arith)) in
+      let p : Place = record { kind = kindOf c; start = record { 0 = at + 8 }; size = record { 0 = n }; pad = x; next = record { 0 = at + 8 + n + padSize x } } in
+      let a = place-whole s (record { 0 = at }) (omega arith) (omega arith) (sym b) (omega arith) (sym k) refl refl in
       let t = step-on s (record { 0 = at }) d a refl refl (sym (ap isThere new)) refl (sym late) refl (sym (plain p)) refl in
       go p (bytes-there s at c bytes (bodyBytes ps) (w .left))
-      (record { rest = walk-on (w .rest) (omega arith) t refl refl; upto = f; left = rest-there s at c bytes (bodyBytes ps) (w .left) })
+      (record {
+        rest = walk-on (w .rest) (omega arith) t refl refl;
+        upto = omega arith;
+        left = ap (λ (to : ℕ). drop to s) e ∙ rest-there s at c bytes (bodyBytes ps) (w .left);
+      })
 
   -- the next chunk is met where it is written; the directory then holds its spot
   stand-given : {at : ℕ} (c : Code) (x : Part) {ps : List Piece} (hold : Spot → Directory) → Stand s at (hold Missing) (given c x ps)

@@ -39,11 +39,6 @@ pub length-body : (p : Piece) (ps : List Piece) → length (bodyBytes (p ∷ ps)
 unfolding bodyBytes
 length-body p ps = length-append (pieceBytes p) (bodyBytes ps) ∙ ap (λ (n : ℕ). n + length (bodyBytes ps)) (length-piece p)
 
-pub even-body : (ps : List Piece) → length (bodyBytes ps) % 2 ≡ 0
-unfolding bodyBytes
-even-body [] = refl
-even-body (p ∷ ps) = omega (arith, length-body p ps, even-body ps)
-
 pub length-file : (ps : List Piece) → length (fileBytes ps) ≡ 12 + length (bodyBytes ps)
 unfolding fileBytes
 length-file ps =

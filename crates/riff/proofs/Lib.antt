@@ -1,6 +1,7 @@
 pub mod Heading
 pub mod Placing
 pub mod Walking
+pub mod Padding
 pub mod Parting
 pub mod Laying
 pub mod Found

@@ -2,7 +2,7 @@
 use mathlib.Core.Path.{_≡_, sym, ap, _∙_}
 use mathlib.Core.Bool.{Bool, true, false}
 use mathlib.Core.List.{List}
-use Prim.Native.Nat.{ℕ, _+_, _-_, _%_, _≤_, _<_}
+use Prim.Native.Nat.{ℕ, _+_, _-_, _≤_, _<_}
 use native.Mathlib.Omega.{arith}
 use lib.ListN.{length}
 use borrow.Author.Tests.{lt-ltb, le-ltb}
@@ -15,12 +15,13 @@ use Rattle.units.specs.declared.Refusal.{Refusal}
 use Rattle.units.specs.declared.Refusal.the-variants.{ChunkPastTheEnd, SecondOfItsKind, DataBeforeFormat, WaveList}
 use Rattle.riff.specs.declared.Kind.{Kind}
 use Rattle.riff.specs.declared.Kind.the-variants.{Format, Sound, Fact, Cues, Plays, Listing, Other}
+use Rattle.riff.specs.declared.Pad.{Pad}
 use Rattle.riff.specs.declared.Place.{Place}
 use Rattle.riff.specs.declared.Step.{Step}
 use Rattle.riff.specs.declared.Step.the-variants.{Chunk, Refused}
 use Rattle.riff.specs.declared.Spot.{Spot}
 use Rattle.riff.specs.declared.Directory.{Directory}
-use Rattle.riff.specs.Chunks.{kindAt, nextAt, placeAt, spotOf, isThere, keep, early, startsAsWaves, waveList, checked, chunkAt}
+use Rattle.riff.specs.Chunks.{kindAt, endAt, padAfter, padSize, placeAt, spotOf, isThere, keep, early, startsAsWaves, waveList, checked, chunkAt}
 use Rattle.riff.specs.Walk.{refusalOf}
 
 -- ---- the kind of a chunk: the first code that stands there
@@ -73,14 +74,17 @@ module _ (s : List ℕ) (at : BytePlace) where
   place-short g h = short (omega arith)
 
   module _ (g : 8 ≤ length s) (h : at .0 ≤ length s - 8) {n : ℕ} (b : n ≡ numberAt 4 s (at .0 + 4)) where
-    pub place-cut : length s < at .0 + 8 + n + n % 2 → Refused ChunkPastTheEnd ≡ placeAt s at
+    pub place-cut : length s < at .0 + 8 + n → Refused ChunkPastTheEnd ≡ placeAt s at
     unfolding placeAt
-    place-cut k = simp (le-ltb (length s) (at .0 + 8) (omega arith), lt-ltb (length s) (nextAt s (at .0)) (omega arith))
+    place-cut k = simp (le-ltb (length s) (at .0 + 8) (omega arith), lt-ltb (length s) (endAt s (at .0)) (omega arith))
 
-    pub place-whole : {k : Kind} → at .0 + 8 + n + n % 2 ≤ length s → k ≡ kindAt s (at .0)
-        → Chunk (record { kind = k; start = record { 0 = at .0 + 8 }; size = record { 0 = n }; next = record { 0 = at .0 + 8 + n + n % 2 } }) ≡ placeAt s at
+    pub place-whole : {k : Kind} {p : Pad} {m : ℕ} → at .0 + 8 + n ≤ length s → k ≡ kindAt s (at .0)
+        → p ≡ padAfter n (at .0 + 8 + n) (length s) → m ≡ padSize p
+        → Chunk (record { kind = k; start = record { 0 = at .0 + 8 }; size = record { 0 = n }; pad = p; next = record { 0 = at .0 + 8 + n + m } })
+        ≡ placeAt s at
     unfolding placeAt
-    place-whole k e = simp (le-ltb (length s) (at .0 + 8) (omega arith), le-ltb (length s) (nextAt s (at .0)) (omega arith), b, e)
+    place-whole k e f g =
+        simp (le-ltb (length s) (at .0 + 8) (omega arith), le-ltb (length s) (endAt s (at .0)) (omega arith), g, f, b, e)
 
 pub ruleset placing = (place-none, place-short, place-cut, place-whole)
 

@@ -1,11 +1,12 @@
 -- A file has room for all chunks that it is read by: where the walk stands, those met so far have room before. Assumes nothing.
-use mathlib.Core.Path.{_≡_, refl, ap, subst}
+use mathlib.Core.Path.{_≡_, refl, sym, ap, _∙_, subst}
 use mathlib.Core.Bool.{Bool, true, false, cond}
 use mathlib.Core.List.{List, []}
-use Prim.Native.Nat.{ℕ, zero, suc, _+_, _≤_}
+use Prim.Native.Nat.{ℕ, zero, suc, _+_, _-_, _%_, _≤_, _<_}
 use native.Mathlib.Omega.{arith}
 use lib.Dec.{ltb}
-use lib.ListN.{length, take, drop}
+use lib.ListN.{length}
+use borrow.Author.Tests.{ltb-true}
 use Rattle.little.proofs.Filling.{part-long}
 use Rattle.units.specs.declared.BytePlace.{BytePlace}
 use Rattle.units.specs.declared.Verdict.{Verdict}
@@ -20,9 +21,11 @@ use Rattle.riff.specs.declared.Spot.the-variants.{At, Missing}
 use Rattle.riff.specs.declared.Directory.{Directory}
 use Rattle.riff.specs.declared.Walked.{Walked}
 use Rattle.riff.specs.declared.Walked.the-variants.{Whole, Stopped}
-use Rattle.riff.specs.Chunks.{headVerdict, sizeAt, nextAt, placed, spotOf, isThere, keep, chunkAt}
+use Rattle.riff.specs.Chunks.{headVerdict, sizeAt, endAt, nextAt, placed, spotOf, isThere, keep, chunkAt}
 use Rattle.riff.specs.Walk.{nothingYet, stepThen, stepsFrom, stepsOf, gather, walkOf, afterHead, directoryOf}
+use Rattle.riff.specs.Laying.{extent}
 use Rattle.riff.specs.Demands.{spotExtent}
+use Rattle.riff.proofs.Padding.{next-place}
 use Rattle.riff.proofs.Walking.{Met, met, whole-long}
 
 module _ (s : List ℕ) where
@@ -45,17 +48,18 @@ module _ (s : List ℕ) where
   taken-more d p Listing e = omega arith
   taken-more d p Other e = omega arith
 
-  extent-there : (at : ℕ) → nextAt s at ≤ length s → at + spotExtent s (At (placed s at)) ≡ nextAt s at
-  extent-there at h =
-      let n : ℕ = sizeAt s at in
-      let l : length (take n (drop (at + 8) s)) ≡ n = part-long s (at + 8) n (omega arith) in
-      rw l (omega arith)
+  -- with its pad, also where that is absent
+  extent-there : (at : ℕ) → endAt s at ≤ length s → spotExtent s (At (placed s at)) ≡ extent (sizeAt s at)
+  extent-there at h = ap extent (part-long s (at + 8) (sizeAt s at) (omega arith))
 
-  tiled : (at : ℕ) (d : Directory) (p : Place) → Met s at d p → 12 + taken d ≤ at → 12 + taken (keep d p (p .kind)) ≤ p .next .0
-  tiled at d p m h =
-      let e = extent-there at (m .fits) in
-      let f : at + spotExtent s (At p) ≡ p .next .0 = subst (λ (q : Place). at + spotExtent s (At q) ≡ q .next .0) (m .same) e in
-      omega (arith, taken-more d p (p .kind) (m .new))
+  -- the chunks have room before a place, where a pad that is absent from the end of the file counts as if it were there
+  abbrev Room : Directory → ℕ → Type 0
+  Room d at = 12 + taken d ≤ at + (1 - (length s - at))
+
+  tiled : (at : ℕ) (d : Directory) (p : Place) → Met s at d p → at < length s → Room d at → Room (keep d p (p .kind)) (nextAt s at)
+  tiled at d p m l h =
+      let e : spotExtent s (At p) ≡ extent (sizeAt s at) = ap (λ (q : Place). spotExtent s (At q)) (sym (m .same)) ∙ extent-there at (m .fits) in
+      omega (arith, taken-more d p (p .kind) (m .new), next-place (sizeAt s at) (endAt s at) (length s) (m .fits))
 
   -- ---- the walk
   abbrev takenIn : Walked → ℕ
@@ -64,34 +68,41 @@ module _ (s : List ℕ) where
 
   -- n steps lead from the directory d at a place to e: where the chunks of d have room before the place, those of e have it in the file
   abbrev Leads : ℕ → Directory → BytePlace → Directory → Type 0
-  Leads n e at d = gather d (stepsFrom n s at d) ≡ Whole e → 12 + taken d ≤ at .0 → at .0 ≤ length s → 12 + taken e ≤ length s
+  Leads n e at d = gather d (stepsFrom n s at d) ≡ Whole e → Room d (at .0) → at .0 ≤ length s → 12 + taken e ≤ length s + 1
 
   leads : (n : ℕ) (e : Directory) (at : BytePlace) (d : Directory) → Leads n e at d
   unfolding stepsFrom gather
   leads zero e at d w h g = let f : taken d ≡ taken e = ap takenIn w in omega arith
-  leads (suc n) e at d w h g = turn (leads n e) (ltb (at .0) (length s)) w
+  leads (suc n) e at d w h g = turn (leads n e) (ltb (at .0) (length s)) refl w
     where
-      step : ((to : BytePlace) (c : Directory) → Leads n e to c) → (t : Step) → chunkAt s at d ≡ t
-          → gather d (stepThen (stepsFrom n s) d t) ≡ Whole e → 12 + taken e ≤ length s
-      step on (Refused r) c v = let z : _≡_ {A = ℕ} 0 1 = cc in absurd (omega arith)
-      step on (Chunk p) c v =
+      step : ((to : BytePlace) (c : Directory) → Leads n e to c) → at .0 < length s → (t : Step) → chunkAt s at d ≡ t
+          → gather d (stepThen (stepsFrom n s) d t) ≡ Whole e → 12 + taken e ≤ length s + 1
+      step on l (Refused r) c v = let z : _≡_ {A = ℕ} 0 1 = cc in absurd (omega arith)
+      step on l (Chunk p) c v =
           let m = met s at d p c in
           let f : nextAt s (at .0) ≡ p .next .0 = ap (λ (q : Place). q .next .0) (m .same) in
-          on (p .next) (keep d p (p .kind)) v (tiled (at .0) d p m h) (omega (arith, m .fits))
+          let k = next-place (sizeAt s (at .0)) (endAt s (at .0)) (length s) (m .fits) in
+          on (p .next) (keep d p (p .kind)) v (subst (Room (keep d p (p .kind))) f (tiled (at .0) d p m l h)) (omega arith)
 
-      turn : ((to : BytePlace) (c : Directory) → Leads n e to c) → (b : Bool)
-          → gather d (cond b (stepThen (stepsFrom n s) d (chunkAt s at d)) []) ≡ Whole e → 12 + taken e ≤ length s
-      turn on true v = step on (chunkAt s at d) refl v
-      turn on false v = let f : taken d ≡ taken e = ap takenIn v in omega arith
+      turn : ((to : BytePlace) (c : Directory) → Leads n e to c) → (b : Bool) → ltb (at .0) (length s) ≡ b
+          → gather d (cond b (stepThen (stepsFrom n s) d (chunkAt s at d)) []) ≡ Whole e → 12 + taken e ≤ length s + 1
+      turn on true t v = step on (ltb-true (at .0) (length s) t) (chunkAt s at d) refl v
+      turn on false t v = let f : taken d ≡ taken e = ap takenIn v in omega arith
 
 -- ---- the header before it
 unopened : (v : Verdict) (w : Walked) (d : Directory) → afterHead v w ≡ Whole d → w ≡ Whole d
 unopened verdict.Accepted w d e = e
 unopened (verdict.Refused r) w d e = let z : _≡_ {A = ℕ} 0 1 = cc in absurd (omega arith)
 
+even-extent : (s : List ℕ) (spot : Spot) → spotExtent s spot % 2 ≡ 0
+even-extent s (At p) = omega arith
+even-extent s Missing = refl
+
+-- all of them are of even length with their pads, and the file is longer than that, or shorter by a pad alone
 pub room-for-all : (s : List ℕ) (d : Directory) → directoryOf s ≡ Whole d
     → 12 + (spotExtent s (d .format) + (spotExtent s (d .fact) + (spotExtent s (d .cues) + (spotExtent s (d .plays) + spotExtent s (d .sound)))))
-    ≤ length s
+    ≤ length s + length s % 2
 unfolding directoryOf walkOf stepsOf
 room-for-all s d e =
-    leads s (length s) d (record { 0 = 12 }) nothingYet (unopened (headVerdict s) (walkOf s) d e) (omega arith) (whole-long s refl e)
+    let r = leads s (length s) d (record { 0 = 12 }) nothingYet (unopened (headVerdict s) (walkOf s) d e) (omega arith) (whole-long s refl e) in
+    omega (arith, even-extent s (d .format), even-extent s (d .fact), even-extent s (d .cues), even-extent s (d .plays), even-extent s (d .sound))

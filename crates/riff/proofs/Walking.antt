@@ -19,14 +19,14 @@ use Rattle.riff.specs.declared.Step.the-variants.{Chunk, Refused}
 use Rattle.riff.specs.declared.Directory.{Directory}
 use Rattle.riff.specs.declared.Walked.{Walked}
 use Rattle.riff.specs.declared.Walked.the-variants.{Whole, Stopped}
-use Rattle.riff.specs.Chunks.{headVerdict, nextAt, placed, passes, placeAt, spotOf, isThere, keep, early, waveList, checked, chunkAt}
+use Rattle.riff.specs.Chunks.{headVerdict, endAt, nextAt, placed, passes, placeAt, spotOf, isThere, keep, early, waveList, checked, chunkAt}
 use Rattle.riff.specs.Walk.{nothingYet, stepThen, stepsFrom, stepsOf, gather, walkOf, afterHead, directoryOf, refusalOf}
 use Rattle.riff.proofs.Heading.{head-short, head-long}
 
--- ---- a chunk that was met: it stands there, it fits the file, and none of its kind was met before
+-- ---- a chunk that was met: it stands there, its data fit the file, and none of its kind was met before
 pub record Met (s : List ℕ) (at : ℕ) (d : Directory) (p : Place) : Type 0 where
   pub same : placed s at ≡ p
-  pub fits : nextAt s at ≤ length s
+  pub fits : endAt s at ≤ length s
   pub new : isThere (spotOf d (p .kind)) ≡ false
 
 -- of a test that refuses, a chunk came the other way
@@ -47,10 +47,10 @@ module _ (s : List ℕ) (at : BytePlace) (d : Directory) (p : Place) where
   unfolding placeAt
   placed-there e = ap (placeIn p) (through (passes s (at .0)) ChunkPastTheEnd (Chunk (placed s (at .0))) p e)
 
-  placed-fits : placeAt s at ≡ Chunk p → nextAt s (at .0) ≤ length s
+  placed-fits : placeAt s at ≡ Chunk p → endAt s (at .0) ≤ length s
   unfolding placeAt
   placed-fits e =
-      ltb-false (length s) (nextAt s (at .0))
+      ltb-false (length s) (endAt s (at .0))
       (second (ltb (length s) (at .0 + 8)) _ (failed (passes s (at .0)) ChunkPastTheEnd (Chunk (placed s (at .0))) p e))
     where
       second : (x y : Bool) → (x || y) ≡ false → y ≡ false

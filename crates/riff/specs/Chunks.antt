@@ -14,6 +14,8 @@ use Rattle.units.specs.declared.Refusal.the-variants.{LengthOutOfRange, NotWave
 use Rattle.units.specs.declared.Verdict.{Verdict}
 use Rattle.riff.specs.declared.Kind.{Kind}
 use Rattle.riff.specs.declared.Kind.the-variants.{Format, Sound, Fact, Cues, Plays, Listing, Other}
+use Rattle.riff.specs.declared.Pad.{Pad}
+use Rattle.riff.specs.declared.Pad.the-variants.{NotNeeded, There, Absent}
 use Rattle.riff.specs.declared.Place.{Place}
 use Rattle.riff.specs.declared.Step.{Step}
 use Rattle.riff.specs.declared.Step.the-variants.{Chunk, Refused}
@@ -31,9 +33,9 @@ badLength s = ltb (length s) 12 || ltb fileLimit (length s)
 abbrev pub noWave : List ℕ → Bool
 noWave s = not (isAt s 0 code.Riff) || not (isAt s 8 code.Wave)
 
--- RIFF size R is odd, or 8+R is not the length
+-- 8+R is not the length, where R is the RIFF size
 abbrev pub badSize : List ℕ → Bool
-badSize s = not (eqb (numberAt 4 s 4 % 2) 0) || not (eqb (8 + numberAt 4 s 4) (length s))
+badSize s = not (eqb (8 + numberAt 4 s 4) (length s))
 
 -- 1, 2, 3
 abbrev pub headChecks : List ℕ → List Check
@@ -58,21 +60,43 @@ kindAt s at =
     (cond (isAt s at code.Listing) Listing
     Other)))))
 
--- the size of the data, and where the next chunk starts
+-- the size of the data, and where they end
 abbrev pub sizeAt : List ℕ → ℕ → ℕ
 sizeAt s at = numberAt 4 s (at + 4)
 
+abbrev pub endAt : List ℕ → ℕ → ℕ
+endAt s at = at + 8 + sizeAt s at
+
+-- the pad after data of a size that end at a place: "it may be absent only where the chunk's data ends at the file's end"
+unfoldable pub padAfter : ℕ → ℕ → ℕ → Pad
+padAfter size end length = cond (eqb (size % 2) 0) NotNeeded (cond (eqb end length) Absent There)
+
+abbrev pub padSize : Pad → ℕ
+padSize NotNeeded = 0
+padSize There = 1
+padSize Absent = 0
+
+abbrev pub padAt : List ℕ → ℕ → Pad
+padAt s at = padAfter (sizeAt s at) (endAt s at) (length s)
+
+-- where the next chunk starts
 abbrev pub nextAt : List ℕ → ℕ → ℕ
-nextAt s at = at + 8 + sizeAt s at + sizeAt s at % 2
+nextAt s at = endAt s at + padSize (padAt s at)
 
 -- the chunk whose header stands at a place
 abbrev pub placed : List ℕ → ℕ → Place
 placed s at =
-    record { kind = kindAt s at; start = record { 0 = at + 8 }; size = record { 0 = sizeAt s at }; next = record { 0 = nextAt s at } }
+    record {
+      kind = kindAt s at;
+      start = record { 0 = at + 8 };
+      size = record { 0 = sizeAt s at };
+      pad = padAt s at;
+      next = record { 0 = nextAt s at };
+    }
 
--- its header, or its data with pad, passes the end
+-- its header, or its data, passes the end
 abbrev pub passes : List ℕ → ℕ → Bool
-passes s at = ltb (length s) (at + 8) || ltb (length s) (nextAt s at)
+passes s at = ltb (length s) (at + 8) || ltb (length s) (endAt s at)
 
 unfoldable pub placeAt : List ℕ → BytePlace → Step
 placeAt s at = cond (passes s (at .0)) (Refused ChunkPastTheEnd) (Chunk (placed s (at .0)))

@@ -1,18 +1,22 @@
--- The numbers of the walk; what reading a file gives, against the chunks it was laid of; and the bytes that the chunks it is read by
--- take. Assumes nothing.
-use Prim.Native.Nat.{ℕ, zero, suc}
+-- The numbers of the walk; what the pad of a chunk says; what reading a file gives, against the chunks it was laid of; and the bytes
+-- that the chunks it is read by take. Assumes nothing.
+use Prim.Native.Nat.{ℕ, zero, suc, _+_, _%_, _<_}
 use mathlib.Core.Path.{_≡_}
 use mathlib.Core.Bool.{true, cond}
 use mathlib.Core.List.{List, []}
 use lib.Dec.{ltb}
 use lib.ListN.{length}
 use Rattle.units.specs.declared.BytePlace.{BytePlace}
+use Rattle.riff.specs.declared.Pad.{Pad}
+use Rattle.riff.specs.declared.Pad.the-variants.{NotNeeded, There, Absent}
+use Rattle.riff.specs.declared.Place.{Place}
+use Rattle.riff.specs.declared.Step.the-variants.{Chunk}
 use Rattle.riff.specs.declared.Spot.{Spot}
 use Rattle.riff.specs.declared.Spot.the-variants.{At, Missing}
 use Rattle.riff.specs.declared.Directory.{Directory}
 use Rattle.riff.specs.declared.Walked.the-variants.{Whole}
-use Rattle.riff.specs.Chunks.{badLength, noWave, badSize, kindAt, nextAt, placed, passes, isThere, spotOf, keep, early, waveList, chunkAt, stepNumber}
-use Rattle.riff.specs.Walk.{nothingYet, walkedNumber, directoryOf, partOf}
+use Rattle.riff.specs.Chunks.{badLength, noWave, badSize, kindAt, padSize, nextAt, placed, passes, isThere, spotOf, keep, early, waveList, chunkAt, stepNumber}
+use Rattle.riff.specs.Walk.{nothingYet, stepsFrom, walkedNumber, directoryOf, partOf}
 use Rattle.riff.specs.Laying.{extent, Parts}
 
 -- ---- the numbers 1 to 7 of document 01, in its order of checks
@@ -46,6 +50,21 @@ WalkNumbered =
     (s : List ℕ)
     → walkedNumber (directoryOf s)
     ≡ cond (badLength s) 1 (cond (noWave s) 2 (cond (badSize s) 3 (walkNumber s)))
+
+-- ---- the pad of every chunk that is met
+
+-- data of an even size need none; after others it is a byte of the file, or absent: then the data end with the file, and no chunk
+-- comes after
+abbrev pub padSays : List ℕ → Place → Pad → Type 0
+padSays s p NotNeeded = p .size .0 % 2 ≡ 0
+padSays s p There = (p .size .0 % 2 ≡ 1) × (p .start .0 + p .size .0 < length s)
+padSays s p Absent =
+    (p .size .0 % 2 ≡ 1) × (p .start .0 + p .size .0 ≡ length s) × ((n : ℕ) (d : Directory) → stepsFrom n s (p .next) d ≡ [])
+
+unfoldable pub PadTold : Type 0
+PadTold =
+    (s : List ℕ) (at : BytePlace) (d : Directory) (p : Place) → chunkAt s at d ≡ Chunk p
+    → padSays s p (p .pad) × (p .next .0 ≡ p .start .0 + p .size .0 + padSize (p .pad))
 
 -- ---- s reads as the parts p; of a chunk that is not written, as what is read in its place
 pub record Reads (s : List ℕ) (p : Parts) : Type 0 where

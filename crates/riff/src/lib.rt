@@ -10,7 +10,7 @@ ghost use mathlib.Core.Path.{_≡_};
 ghost use Prim.Native.Nat.{_+_, _≤_, min};
 ghost use lib.ListN.{length, take, drop};
 ghost use Rattle.little.specs.Writing.{Put};
-ghost use Rattle.riff.specs.Chunks.{headVerdict, kindAt, placeAt, spotOf, isThere, early, startsAsWaves, waveList, chunkAt, directory, keep};
+ghost use Rattle.riff.specs.Chunks.{headVerdict, kindAt, padAfter, padSize, placeAt, spotOf, isThere, early, startsAsWaves, waveList, chunkAt, directory, keep};
 ghost use Rattle.riff.specs.Walk.{refusalOf, walkOf, directoryOf, partOf, bySpot, startOf};
 ghost use Rattle.riff.specs.Laying.{headBytes, riffBytes};
 
@@ -25,11 +25,20 @@ pub enum Kind {
     Other,
 }
 
-// A chunk: where its data start, how many bytes they are, and where the next chunk starts.
+// The pad after a chunk's data: even data need none, and data that end with the file may lack it.
+pub enum Pad {
+    NotNeeded,
+    There,
+    Absent,
+}
+
+// A chunk: where its data start, how many bytes they are, whether their pad is there, and where the next
+// chunk starts.
 pub struct Place {
     pub kind: Kind,
     pub start: BytePlace,
     pub size: BytePlace,
+    pub pad: Pad,
     pub next: BytePlace,
 }
 
@@ -79,9 +88,6 @@ fn head(file: &[u8]) -> Verdict
         return Verdict::Refused(Refusal::NotWave);
     }
     let size = little::u32_at(file, 4) as usize;
-    if size % 2 != 0 {
-        return Verdict::Refused(Refusal::RiffSizeWrong);
-    }
     if 8 + size != file.len() {
         return Verdict::Refused(Refusal::RiffSizeWrong);
     }
@@ -113,6 +119,31 @@ fn kind_at(file: &[u8], at: usize) -> Kind
     Kind::Other
 }
 
+// The pad after data of some size that end at a place: absent only where they end with the file.
+fn pad_after(size: usize, end: usize, length: usize) -> Pad
+    ensures answer { λ r. ⌜ r ≡ padAfter size end length ⌝ }
+{
+    if size % 2 == 0 {
+        return Pad::NotNeeded;
+    }
+    if end == length {
+        return Pad::Absent;
+    }
+    Pad::There
+}
+
+// How many bytes a pad has.
+fn pad_size(pad: Pad) -> usize
+    ensures answer { λ r. ⌜ r ≡ padSize pad ⌝ }
+    ensures bound { λ r. ⌜ r ≤ 1 ⌝ }
+{
+    match pad {
+        Pad::NotNeeded => 0,
+        Pad::There => 1,
+        Pad::Absent => 0,
+    }
+}
+
 // The chunk that starts at a place, where it fits the file.
 fn place_at(file: &[u8], at: BytePlace) -> Step
     ensures answer { λ r. ⌜ r ≡ placeAt (now (file .entry)) at ⌝ }
@@ -126,16 +157,17 @@ fn place_at(file: &[u8], at: BytePlace) -> Step
     }
     let size = little::u32_at(file, a + 4) as usize;
     let end = a + 8 + size;
-    let next = end + size % 2;
-    if file.len() < next {
+    if file.len() < end {
         return Step::Refused(Refusal::ChunkPastTheEnd);
     }
     let kind = kind_at(file, a);
+    let pad = pad_after(size, end, file.len());
     Step::Chunk(Place {
         kind: kind,
         start: BytePlace(a + 8),
         size: BytePlace(size),
-        next: BytePlace(next),
+        pad: pad,
+        next: BytePlace(end + pad_size(pad)),
     })
 }
 

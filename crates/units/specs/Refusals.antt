@@ -15,9 +15,9 @@ abbrev pub numberOf : Refusal → ℕ
 numberOf LengthOutOfRange = 1
 -- bytes 0-3 not `RIFF` or 8-11 not `WAVE`
 numberOf NotWave = 2
--- RIFF size R is odd, or 8+R is not the length
+-- 8+R is not the length, where R is the RIFF size
 numberOf RiffSizeWrong = 3
--- a chunk's header, or its data with pad, passes the end
+-- a chunk's header, or its data, passes the end
 numberOf ChunkPastTheEnd = 4
 -- a second `fmt `, `data`, `fact`, `cue ` or `plst`
 numberOf SecondOfItsKind = 5

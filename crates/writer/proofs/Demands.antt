@@ -2,7 +2,7 @@
 use mathlib.Core.Path.{_≡_, refl, sym, ap, _∙_, subst}
 use mathlib.Core.Bool.{Bool, true, false, cond}
 use mathlib.Core.List.{List}
-use Prim.Native.Nat.{ℕ, _≤_, _<_}
+use Prim.Native.Nat.{ℕ, _+_, _%_, _≤_, _<_}
 use native.Mathlib.Omega.{arith}
 use lib.Dec.{leb}
 use lib.ListN.{length}
@@ -78,9 +78,10 @@ again s e =
     let c : holds m w ≡ contentOf s = content-taken s refl e refl in
     let h = held s c in
     let n = not-longer s (h .places) (h .walked) (h .formatThere) (h .soundThere) (h .verdict) in
-    let f : length (fileOf m w) ≤ length s = subst (λ (k : ℕ). k ≤ length s) (λ i. length (fileOf (h .made i) (h .sound i))) n in
+    let padded : ℕ = length s + length s % 2 in
+    let f : length (fileOf m w) ≤ padded = subst (λ (k : ℕ). k ≤ padded) (λ i. length (fileOf (h .made i) (h .sound i))) n in
     let i = whole-limit s refl (h .walked) in
-    record { written = λ room l. accepted m w room (content-rules s c) (omega arith) l; shorter = f }
+    record { written = λ room l. accepted m w room (content-rules s c) (omega arith) l; notLonger = f }
 
 -- ---- and read again it is the same
 pub same-again : Same

@@ -1,9 +1,9 @@
--- A record that was read is written in no more bytes than the file it was read from: chunk by chunk, as each is written in its
--- shortest form. Assumes nothing.
+-- A record that was read is written in no more bytes than the file it was read from has with its last pad: chunk by chunk, as each
+-- is written in its shortest form. Assumes nothing.
 use mathlib.Core.Path.{_≡_, subst}
 use mathlib.Core.Bool.{Bool, true, false, cond}
 use mathlib.Core.List.{List, []}
-use Prim.Native.Nat.{ℕ, _≤_}
+use Prim.Native.Nat.{ℕ, _+_, _%_, _≤_}
 use native.Mathlib.Omega.{arith}
 use lib.Dec.{leb}
 use lib.ListN.{length}
@@ -66,7 +66,7 @@ table-fits s Missing bytes e = omega arith
 
 module _ (s : List ℕ) (d : Directory) (walked : directoryOf s ≡ Whole d) (f : isThere (d .format) ≡ true) (g : isThere (d .sound) ≡ true)
     (e : verdictAt s d ≡ Accepted) where
-  pub not-longer : length (fileOf (recordAt s d) (soundPart s d)) ≤ length s
+  pub not-longer : length (fileOf (recordAt s d) (soundPart s d)) ≤ length s + length s % 2
   unfolding fileOf partsOf recordOf cuesOf playsOf
   not-longer =
       let k = formed s d e in

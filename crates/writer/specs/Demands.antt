@@ -1,5 +1,5 @@
 -- Demand 2 of written files, for every record, sound and room. `proofs/Demands.antt` proves each. Assumes nothing.
-use Prim.Native.Nat.{ℕ, _≤_, _<_}
+use Prim.Native.Nat.{ℕ, _+_, _%_, _≤_, _<_}
 use mathlib.Core.Path.{_≡_}
 use mathlib.Core.Bool.{true, false, not}
 use mathlib.Core.List.{List}
@@ -33,7 +33,7 @@ Back =
     (m : Record) (w : List ℕ) (room : ℕ) (n : BytePlace) → RecordFits m → writing m w room ≡ Bytes n → ReadsBack m w n
 
 -- ---- every record that reading gives is written with that file's sound, wherever there is room for the new file, which is not
--- longer than the old one
+-- longer than the old one with its last pad
 
 abbrev pub fileAgain : List ℕ → List ℕ
 fileAgain s = fileOf (reading s .made) (soundIn s)
@@ -41,7 +41,7 @@ fileAgain s = fileOf (reading s .made) (soundIn s)
 pub record Rewritten (s : List ℕ) : Type 0 where
   pub written : (room : ℕ) → length (fileAgain s) ≤ room
       → writing (reading s .made) (soundIn s) room ≡ Bytes (sizeOf (fileAgain s))
-  pub shorter : length (fileAgain s) ≤ length s
+  pub notLonger : length (fileAgain s) ≤ length s + length s % 2
 
 unfoldable pub Again : Type 0
 Again = (s : List ℕ) → reading s .verdict ≡ verdict.Accepted → Rewritten s

@@ -9,5 +9,4 @@ head-spec =
     tie.close
     (tie.spec (λ c. search (needs, heading)) (λ c. search (needs, heading)) (λ c κs. search needs)
     (λ c. search (needs, heading)) (λ c κs. search needs) (λ c. search (needs, heading)) (λ c κs. search needs)
-    (λ c. search needs) (λ c. search (needs, heading)) (λ c. search needs) (λ c. search (needs, heading))
-    (λ c. search (needs, heading)))
+    (λ c. search needs) (λ c. search needs) (λ c. search (needs, heading)) (λ c. search (needs, heading)))
