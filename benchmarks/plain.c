@@ -367,13 +367,14 @@ static bool find_parts(const uint8_t *file, size_t file_bytes, struct wave *wave
     size_t place = 12;
     while (file_bytes - place >= 8) {
         size_t size = number32(file + place + 4);
-        size_t padded = size + size % 2;
-        if (padded > file_bytes - place - 8)
+        size_t left = file_bytes - place - 8;
+        if (size > left)
             return false;
         struct part *part = part_with_code(wave, file + place);
         if (part != NULL)
             *part = (struct part){file + place + 8, size};
-        place += 8 + padded;
+        /* The last pad may be absent. */
+        place += 8 + (size < left ? size + size % 2 : size);
     }
     return wave->format.bytes >= 16 && wave->sound.at != NULL;
 }

@@ -33,7 +33,7 @@ enum tronalhet_refusal {
     TRONALHET_ACCEPTED = 0,
     TRONALHET_LENGTH_OUT_OF_RANGE = 1,      /* under 12 bytes, or over the limit */
     TRONALHET_NOT_WAVE = 2,                 /* not RIFF, or not WAVE */
-    TRONALHET_RIFF_SIZE_WRONG = 3,          /* the RIFF size is odd, or is not that of the file */
+    TRONALHET_RIFF_SIZE_WRONG = 3,          /* the RIFF size is not that of the file */
     TRONALHET_CHUNK_PAST_THE_END = 4,       /* a chunk passes the end */
     TRONALHET_SECOND_OF_ITS_KIND = 5,       /* a second fmt, data, fact, cue or plst */
     TRONALHET_DATA_BEFORE_FORMAT = 6,       /* data before any fmt */

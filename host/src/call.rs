@@ -62,7 +62,8 @@ pub const COMMANDS: &[Command] = &[
         options: &[flag("sound", "also tests the header of every ADPCM block: refusal 15"), JSON],
         about: "Says of each file whether it is accepted. The status is that of the first that is not.",
         more: "Without --sound all is tested but the sound itself. That the header of an ADPCM block is out of range\n\
-               (refusal 15) shows only with --sound, or when the file is decoded.",
+               (refusal 15) shows only with --sound, or when the file is decoded. The pad byte after the last chunk\n\
+               may be absent, where the RIFF size does not count it.",
     },
     Command {
         name: "decode",

@@ -137,7 +137,6 @@ fn wrong_size(file: &[u8]) -> Option<Place> {
     let fits = format!("it is {size}, for a file of {} bytes; this one has {there}", size + 8);
     let what = match ending(file) {
         Ending::Unfinished => format!("it is {size}: {CUT_OFF}"),
-        _ if size % 2 == 1 => format!("it is {size}, which is odd; the file has {there} bytes"),
         _ if size + 8 > there => format!("{fits}, {} too few", size + 8 - there),
         _ => format!("{fits}, {} too many", there - size - 8),
     };
@@ -153,9 +152,7 @@ fn past_the_end(file: &[u8]) -> Option<Place> {
         Passing::Chunk(chunk) => chunk,
         Passing::Header(byte) => return at(None, byte, format!("the file ends at byte {end}, in a chunk's header")),
     };
-    let pad = if chunk.size % 2 == 1 { " and a pad byte" } else { "" };
-    let what = format!("it is {}{pad}, up to byte {}; the file ends at byte {end}", chunk.size, chunk.end());
-    Some(chunk.size_fault(what))
+    Some(chunk.size_fault(format!("it is {}, up to byte {}; the file ends at byte {end}", chunk.size, chunk.end())))
 }
 
 fn second(file: &[u8]) -> Option<Place> {

@@ -167,7 +167,7 @@ fn heads(file: &File, start: u64, room: &mut [u8]) -> io::Result<()> {
     Ok(())
 }
 
-/// Where the chunk after the one at a place starts; past the end where there is none.
+/// Where the chunk after the one at a place starts; past the end where there is none, as after a chunk without its pad.
 fn next_chunk(room: &[u8], at: usize) -> usize {
     match room.get(at + 4..at + 8) {
         Some(size) => {
@@ -212,6 +212,17 @@ mod tests {
         assert!(zero(LOOKED_AT + AHEAD, 200_020));
         assert_eq!(room[200_020..200_044 + LOOKED_AT], file[200_020..200_044 + LOOKED_AT]);
         assert!(zero(200_020 + LOOKED_AT + AHEAD, file.len()));
+    }
+
+    #[test]
+    fn the_last_pad_may_be_absent() {
+        let long = chunk(b"junk", &[1; 199_999]);
+        for last in [chunk(b"fact", &[2; 5]), chunk(b"junk", &[2; 99_999])] {
+            let mut file = [b"RIFF....WAVE".to_vec(), long.clone(), last].concat();
+            file.pop();
+            let end = file.len().min(200_020 + LOOKED_AT);
+            assert_eq!(glanced(&file)[200_020..end], file[200_020..end]);
+        }
     }
 
     #[test]

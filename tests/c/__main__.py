@@ -6,6 +6,7 @@
 Each answer must be what the second implementations in Python say; and, of the files of tests/data, what sox, ffmpeg
 and libsndfile report of them, hear in them or make of them.
 """
+import hashlib
 import sys
 
 from c.request import WORDS, Library
@@ -66,6 +67,21 @@ def heard(library):
         expect(f'{path.name}, whether it is as heard', whole.buffer[:len(sound)] == sound, True)
         expect(f'{path.name}, its frames', 2 * channels * whole.n, len(sound))
         by_blocks(library, path.name, file, [] if samples == 1 else parts_of(sound, 2 * channels * samples))
+
+
+def without_pad(library):
+    """A file without its last pad sounds to every program as it does with it, and to those that are exact as to us."""
+    found = list(others.without_pad())
+    expect('how many files lack their pad', len(found), 5)
+    for path, sums in found:
+        expect(f'{path.name}, who hears in it', sorted(sums), ['ffmpeg', 'sndfile', 'sox'])
+        for program, (padded, bare) in sums.items():
+            expect(f'{path.name}, what {program} hears in it', bare, padded)
+        own = hashlib.md5(path.with_suffix('.heard').read_bytes()).hexdigest()
+        for program in next(exact for word, exact in others.EXACT.items() if f'-{word}-' in path.name):
+            expect(f'{path.name}, what {program} hears, which is exact', sums[program][1], own)
+    bare, padded = [(HEARD / f'sox-pcm8-mono-{end}.wav').read_bytes() for end in ('no-pad', 'odd')]
+    expect('whether a file without its pad is written with it', again(library, 'no pad', bare) == padded, True)
 
 
 def not_heard(library, name, file):
@@ -184,7 +200,8 @@ def all_files(count, seed):
 
 def main(count=2000, seed=1):
     with Library() as library:
-        for part in (coded, heard, written, written_again, reported_songs, heard_songs, songs_on_sides, the_story):
+        for part in (coded, heard, without_pad, written, written_again, reported_songs, heard_songs, songs_on_sides,
+                     the_story):
             part(library)
         for label, file in all_files(int(count), int(seed)):
             all_calls(library, label, file)

@@ -404,6 +404,30 @@ static void check_write_odd(void)
     CHECK(is_filled(out + 44, sizeof out - 44));
 }
 
+/* The same byte without its pad: 45 bytes, where R is 37 and is 3 if it counts the pad. What is written has it. */
+static void check_read_without_pad(void)
+{
+    const uint32_t start[9] = {1, 1, 8000, 8, 1, 1, 1, 0, 0};
+    uint8_t file[45] = {
+        'R', 'I', 'F', 'F', 37, 0, 0, 0, 'W', 'A', 'V', 'E',
+        'f', 'm', 't', ' ', 16, 0, 0, 0, 1, 0, 1, 0, 0x40, 0x1F, 0, 0, 0x40, 0x1F, 0, 0, 1, 0, 8, 0,
+        'd', 'a', 't', 'a', 1, 0, 0, 0, 200};
+    uint32_t record[WORDS];
+    size_t place = 0;
+    CHECK(tronalhet_read(file, sizeof file, record, WORDS) == 0);
+    CHECK(memcmp(record, start, sizeof start) == 0);
+    CHECK(gives(tronalhet_sound(file, sizeof file, &place, 1), 1));
+    CHECK(place == 44);
+    fill_buffers();
+    CHECK(gives(tronalhet_decode(file, sizeof file, samples_out, 1), 1));
+    CHECK(samples_out[0] == 18432);
+    CHECK(gives(tronalhet_write(record, WORDS, file + place, 1, out, 46), 46));
+    CHECK(out[4] == 38 && out[45] == 0);
+    CHECK(memcmp(out + 8, file + 8, 37) == 0);
+    file[4] = 38;
+    CHECK(tronalhet_read(file, sizeof file, record, WORDS) == 3);
+}
+
 /* One word of cue_file's record changed, with the refusal that this gives. */
 struct word_fault {
     int line;
@@ -791,6 +815,15 @@ static void check_too_long(void)
     CHECK(tronalhet_add(empty_side, sizeof empty_side, file, limit, 5, UINT32_MAX, NULL, 0).refusal == 1);
     record[6]++;
     CHECK(tronalhet_write(record, WORDS, file, limit - 42, NULL, 0).refusal == 1);
+
+    /* The longest file without its pad, 8 bits a sample: with the pad it is as long as is accepted. */
+    static const uint8_t eight_bits[8] = {0x40, 0x1F, 0, 0, 1, 0, 8, 0};
+    memcpy(file + 28, eight_bits, sizeof eight_bits);
+    file[4]--;
+    file[40]--;
+    CHECK(tronalhet_read(file, limit - 1, record, WORDS) == 0);
+    CHECK(record[6] == 1073741779);
+    CHECK(tronalhet_write(record, WORDS, file, limit - 45, NULL, 0).refusal == 14);
     free(file);
 }
 
@@ -804,6 +837,7 @@ int main(void)
     check_sound();
     check_write();
     check_write_odd();
+    check_read_without_pad();
     check_write_refusals();
     check_decode();
     check_decode_block();

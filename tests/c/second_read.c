@@ -26,7 +26,7 @@ static uint32_t start_refusal(const uint8_t *file, size_t file_bytes)
     if (!is_code(file, "RIFF") || !is_code(file + 8, "WAVE"))
         return 2;
     uint64_t riff_size = number32(file + 4);
-    if (riff_size % 2 == 1 || 8 + riff_size != file_bytes)
+    if (8 + riff_size != file_bytes)
         return 3;
     return 0;
 }
@@ -46,7 +46,8 @@ static struct part *chunk_with_code(struct chunks *chunks, const uint8_t *code)
     return NULL;
 }
 
-/* One step of the walk: refusals 4, 5, 6 and 7 of the chunk at *place, which then moves behind it. */
+/* One step of the walk: refusals 4, 5, 6 and 7 of the chunk at *place, which then moves behind it, and past the
+ * end where the last pad is absent. */
 static uint32_t take_chunk(const uint8_t *file, size_t file_bytes, size_t *place, struct chunks *chunks)
 {
     const uint8_t *chunk = file + *place;
@@ -54,8 +55,7 @@ static uint32_t take_chunk(const uint8_t *file, size_t file_bytes, size_t *place
     if (left < 8)
         return 4;
     size_t size = number32(chunk + 4);
-    size_t padded = size + size % 2;
-    if (padded > left - 8)
+    if (size > left - 8)
         return 4;
     struct part *known = chunk_with_code(chunks, chunk);
     if (known != NULL && known->there)
@@ -66,7 +66,7 @@ static uint32_t take_chunk(const uint8_t *file, size_t file_bytes, size_t *place
         return 7;
     if (known != NULL)
         *known = (struct part){true, chunk + 8, size};
-    *place += 8 + padded;
+    *place += 8 + size + size % 2;
     return 0;
 }
 

@@ -1,7 +1,8 @@
 """The files of sox, ffmpeg and libsndfile in this folder, and what document 01 says of them.
 
     reported/   NAME.wav, and in NAME.txt what the program that made it reports of it
-    heard/      NAME.wav, and in NAME.heard its sound as another program hears it
+    heard/      NAME.wav, and in NAME.heard its sound as another program hears it; of a file without its last pad also
+                NAME.txt, the sums of what the three programs hear in it
     coded/      NAME.raw, a sound, and in NAME.wav libsndfile's IMA blocks of it
     written/    NAME.wav as `write` must write it, and in NAME.txt what the three programs report of it
 
@@ -13,7 +14,7 @@ import re
 REPORTED, HEARD, CODED, WRITTEN = (pathlib.Path(__file__).resolve().parent / name
                                    for name in ('reported', 'heard', 'coded', 'written'))
 # How many WAVE files each folder has.
-HELD = {REPORTED: 31, HEARD: 22, CODED: 9, WRITTEN: 21}
+HELD = {REPORTED: 31, HEARD: 27, CODED: 9, WRITTEN: 21}
 
 # The encodings that document 01 accepts, as sox, ffmpeg and libsndfile call them.
 TAGS = {
@@ -26,7 +27,7 @@ TAGS = {
 REFUSED = {
     # Above a rate of 48,000 ffmpeg writes the extensible format, tag 65534.
     'ffmpeg-extensible-192000-refused.wav': 9,
-    # Into a pipe ffmpeg leaves R at 4,294,967,295, which is odd and not the length.
+    # Into a pipe ffmpeg leaves R at 4,294,967,295, which is not the length.
     'ffmpeg-pipe-refused.wav': 3,
     # libsndfile divides the fact count of IMA by the channels: 505 for two blocks of 505 frames.
     'sndfile-ima-stereo-refused.wav': 11,
@@ -41,6 +42,10 @@ NOT_HEARD = {
     # As above: 757 for three blocks of 505 frames.
     'sndfile-ima-stereo-refused.wav': 11,
 }
+
+
+# The programs that hear a format as document 01 means it, by a word in the names of files.
+EXACT = {'pcm8': ['ffmpeg', 'sndfile', 'sox'], 'ima': ['sndfile', 'sox'], 'microsoft': ['ffmpeg']}
 
 
 def paths(folder):
@@ -59,6 +64,14 @@ def files_in(*folders):
 def other_files():
     """The files that other programs made, but for those of coded/, whose sound alone counts."""
     return files_in(HEARD, REPORTED)
+
+
+def without_pad():
+    """Yields the path of each file without its last pad, and by program the sums of what is heard with it and without."""
+    for path in paths(HEARD):
+        if path.stem.endswith('-no-pad'):
+            rows = [line.split() for line in path.with_suffix('.txt').read_text().splitlines()]
+            yield path, {program: sums for program, *sums in rows}
 
 
 def one(pattern, report):

@@ -8,7 +8,7 @@ from trying import expect
 from second import command as second_command, reader as second_reader, side as second_side
 from second.command import answer
 from vectors import side_files, sound_files
-from vectors.wave_files import PAIRS, chunk, cue, data, entry, fact, fmt, ima, microsoft, plst, point, wave
+from vectors.wave_files import PAIRS, chunk, cue, data, entry, fact, fmt, ima, microsoft, plst, point, unpadded, wave
 
 
 # ---- faults that are made by hand
@@ -29,7 +29,9 @@ def faults():
     yield 'another form', wave(fmt(), data(), form=b'WAVX'), 2, ['WAVX', 'WAVE']
     yield 'an MP3 file', b'ID3\4' + bytes(20), 2, ['RIFF', 'MP3']
     yield 'a FLAC file', b'fLaC' + bytes(20), 2, ['fLaC', 'FLAC']
-    yield 'R odd', wave(fmt(), data(), size=len(whole) - 7), 3, [len(whole) - 7, 'odd']
+    eight, right = [fmt(bits=8), data(7)], len(whole) - 8
+    yield 'R for a pad that is absent', unpadded(*eight, counted=1), 3, [right, right + 7, '1 too few']
+    yield 'R without a pad that is there', wave(*eight, size=right - 1), 3, [right - 1, right + 8, '1 too many']
     yield 'R too large', wave(fmt(), data(), size=len(whole) + 92), 3, [len(whole) + 92, len(whole), '100 too few']
     yield 'R too small', wave(fmt(), data(), size=len(whole) - 20), 3, [len(whole) - 20, len(whole), '12 too many']
     for size in (0, 0xffffffff, 0x7ffff024):

@@ -71,18 +71,20 @@ def emptied(label, folder, names_there):
 
 
 def at_the_limit(folder):
-    """A file of the most bytes is listed and checked without being read; a longer one is refused, whatever is asked."""
-    sizes = {'most.wav': MOST, 'over.wav': MOST + 1, 'more.wav': 5 << 30}
+    """A file of the most bytes is listed and checked without being read, and so is one that lacks the pad that would make
+    it as long; a longer one is refused, whatever is asked."""
+    sizes = {'most.wav': MOST, 'bare.wav': MOST - 1, 'over.wav': MOST + 1, 'more.wav': 5 << 30}
     for name, size in sizes.items():
-        sparse(folder / name, size, head_of(MOST))
+        sparse(folder / name, size, head_of(min(size, MOST)))
     for name, content in FILES.items():
         put(folder / name, content)
     # Reading a file of this length takes more memory and more time.
     bounds = folder, 32 << 20, 0.1
-    line = f'wave tag 1 channels 1 rate 8000 bits 8 frames {MOST - 44}'
-    expect('list of the most bytes', measured('list of the most bytes', ['list', 'most.wav'], *bounds), (0, [line]))
-    label = 'check of the most bytes'
-    expect(label, measured(label, ['check', 'most.wav'], *bounds), (0, ['accepted']))
+    for name in ('most.wav', 'bare.wav'):
+        line = f'wave tag 1 channels 1 rate 8000 bits 8 frames {sizes[name] - 44}'
+        for words, answered in ((['list', name], line), (['check', name], 'accepted')):
+            label = f'{words} of {sizes[name]} bytes'
+            expect(label, measured(label, words, *bounds), (0, [answered]))
     for name in ('over.wav', 'more.wav'):
         for words in reading(name):
             label = f'{words} of {sizes[name]} bytes'

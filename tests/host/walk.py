@@ -6,8 +6,9 @@ def walked(file):
     found, at = [], 12
     while at < len(file):
         size = int.from_bytes(file[at + 4:at + 8], 'little')
-        if at + 8 > len(file) or at + 8 + size + size % 2 > len(file):
+        if at + 8 + size > len(file):
             return found, at
         found.append((file[at:at + 4], at, size))
+        # Past the end where the last pad is absent.
         at += 8 + size + size % 2
     return found, None

@@ -8,7 +8,7 @@ from host.places import refusal_of
 from host.run import HOST, MEANINGS, tells
 from trying import tried
 from vectors import side_files
-from vectors.wave_files import chunk, cue, data, entry, fact, fmt, ima, microsoft, plst, point, wave
+from vectors.wave_files import chunk, cue, data, entry, fact, fmt, ima, microsoft, plst, point, unpadded, wave
 
 AGAIN = 'ask for the file again'
 
@@ -84,7 +84,8 @@ def endings():
     yield 'R of the whole length', wave(fmt(), data(), size=whole), anew
     yield 'R wrong, data before fmt', wave(data(), fmt(), size=whole), None
     yield 'R wrong, no data', wave(fmt(), size=whole), None
-    yield 'no pad', wave(fmt(bits=8), data(7), size=whole - 9)[:-1], anew
+    yield 'R for a pad that is absent', unpadded(fmt(bits=8), data(7), counted=1), anew
+    yield 'R without a pad that is there', wave(fmt(bits=8), data(7), size=whole - 9), anew
     yield 'bytes missing', wave(fmt(), data(1000))[:-300], f'300 bytes are missing at the end: {AGAIN}'
     tagged = wave(fmt(), data()) + b'TAG' + bytes(125)
     yield 'an ID3 tag at the end', tagged, 'to leave out what comes after the end: ' + sox()

@@ -1,4 +1,4 @@
-"""A second reader of WAVE files, from document 01's text alone, to compare the library's programs with."""
+"""A second reader of WAVE files, from the text of documents 01 and 02 alone, to compare the library's programs with."""
 import struct
 
 PAIRS = [256, 0, 512, -256, 0, 0, 192, 64, 240, 0, 460, -208, 392, -232]
@@ -22,17 +22,18 @@ def walk(file):
     """Refusals 1 to 7; where each chunk's data start, and the data, by code."""
     demand(12 <= len(file) <= 1 << 30, 1)
     demand(file[:4] == b'RIFF' and file[8:12] == b'WAVE', 2)
-    demand(number(file, 4) % 2 == 0 and 8 + number(file, 4) == len(file), 3)
+    demand(8 + number(file, 4) == len(file), 3)
     found, at = {}, 12
     while at < len(file):
         demand(at + 8 <= len(file), 4)
         code, size = file[at:at + 4], number(file, at + 4)
-        demand(at + 8 + size + size % 2 <= len(file), 4)
+        demand(at + 8 + size <= len(file), 4)
         demand(code not in SINGLE or code not in found, 5)
         demand(code != b'data' or b'fmt ' in found, 6)
         data = file[at + 8:at + 8 + size]
         demand(code != b'LIST' or data[:4] != b'wavl', 7)
         found[code] = at + 8, data
+        # The last pad may be absent: then this passes the end.
         at += 8 + size + size % 2
     return found
 

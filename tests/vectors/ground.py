@@ -4,12 +4,12 @@ import struct
 
 from second.reader import mixed
 
-# Document 01, "Refusal numbers", row by row.
+# Document 01, "Refusal numbers", row by row, as document 02 has changed them.
 REFUSALS = """\
 1 length under 12 or over the limit
 2 bytes 0-3 not `RIFF` or 8-11 not `WAVE`
-3 RIFF size R is odd, or 8+R is not the length
-4 a chunk's header, or its data with pad, passes the end
+3 8+R is not the length, where R is the RIFF size
+4 a chunk's header, or its data, passes the end
 5 a second `fmt `, `data`, `fact`, `cue ` or `plst`
 6 `data` before any `fmt `
 7 a `LIST` whose data starts with `wavl`

@@ -17,6 +17,8 @@ def rich():
     title = wave_files.chunk(b'LIST', b'INFOabc')
     yield wave_files.wave(wave_files.ima(2, 16, 9), wave_files.fact(12), cue, plst, title, data(32))
     yield wave_files.wave(wave_files.microsoft(2, 17, 5), plst, cue, wave_files.fact(6), data(34))
+    yield wave_files.unpadded(wave_files.ima(2, 16, 9), wave_files.fact(12), plst, cue, data(32), title)
+    yield wave_files.unpadded(wave_files.fmt(bits=8), cue, plst, title, data(9))
     many = range(64)
     yield wave_files.wave(wave_files.fmt(channels=2, bits=8), wave_files.fact(1), data(),
                           wave_files.cue(*[wave_files.point(name, name % 4) for name in many]),
@@ -29,7 +31,7 @@ def sized(file):
 
 
 def chunks_of(file):
-    """The chunks of a file, as far as they fit, and what is left."""
+    """The chunks of a file, as far as they fit with their pads, and what is left."""
     found, at = [], 12
     while at + 8 <= len(file):
         size = struct.unpack_from('<I', file, at + 4)[0]

@@ -14,7 +14,7 @@ import struct
 from second import side as second_side, writer as second_writer
 from second.writer import Record
 from vectors import many_files
-from vectors.wave_files import chunk, cue, data, entry, fact, fmt, ima, microsoft, plst, point, wave
+from vectors.wave_files import chunk, cue, data, entry, fact, fmt, ima, microsoft, plst, point, unpadded, wave
 from vectors.writer_records import answer_lines, damaged, hexed, spelled
 
 MOST = 2**32 - 1
@@ -217,11 +217,13 @@ def left_out():
                         ('tables of count 0', wave(fmt(), cue(), plst(), new)),
                         ('a fact', wave(fmt(), fact(99), new)), ('a title before', wave(fmt(), TITLE, new)),
                         ('a title behind', wave(fmt(), new, TITLE)), ('odd chunks', wave(ODD, fmt(), ODD, new, ODD)),
+                        ('a chunk without its pad', unpadded(fmt(), new, ODD)),
                         ('fmt of 18 bytes', wave(long, new)), ('fmt of 40 bytes', wave(longer, new))):
         yield adding(f'a song with {label}', size(2, 4), side((7, 2)), made)
     for label, old in (('a title before', wave(TITLE, fmt(), cues, plays, sound)),
                        ('a title behind', wave(fmt(), cues, plays, sound, TITLE)),
                        ('odd chunks', wave(ODD, fmt(), cues, ODD, plays, sound, ODD)),
+                       ('a chunk without its pad', unpadded(fmt(), cues, plays, sound, ODD)),
                        ('a fact', wave(fmt(), fact(99), cues, plays, sound)),
                        ('the playlist first', wave(plays, cues, fmt(), sound)),
                        ('the sound before the tables', wave(fmt(), sound, plays, cues)),
@@ -541,13 +543,14 @@ def some_songs(chance, channels):
 
 
 def rearranged(file, chance):
-    """The file with its tables anywhere, and now and then chunks that are skipped."""
+    """The file with its tables anywhere, and now and then chunks that are skipped, the last without its pad."""
     (first, *tables, last), _ = many_files.chunks_of(file)
     skipped = [TITLE, ODD, fact(chance.randrange(99)), chunk(b'LIST')]
     tables += chance.sample(skipped, chance.choice([0, 0, 1, 2]))
     chance.shuffle(tables)
     one, two = sorted(chance.choices(range(len(tables) + 1), k=2))
-    return wave(*tables[:one], first, *tables[one:two], last, *tables[two:])
+    order = [*tables[:one], first, *tables[one:two], last, *tables[two:]]
+    return (unpadded if order[-1] == ODD and chance.random() < 0.5 else wave)(*order)
 
 
 def some_file(chance, record, sound):

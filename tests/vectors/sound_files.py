@@ -322,6 +322,9 @@ def places():
         fact = wave_files.fact(5)
         yield from both(f'{name}, chunks before the sound', wave_files.wave(list_, made, junk, fact, list_, data))
         yield from both(f'{name}, chunks behind the sound', wave_files.wave(made, data, junk, fact, list_))
+        yield from both(f'{name}, a chunk without its pad', wave_files.unpadded(made, fact, data, list_, junk))
+        if data[4] % 2 == 1:
+            yield from both(f'{name}, sound without its pad', wave_files.unpadded(made, fact, data))
     cue, plst = wave_files.cue(wave_files.point(7, 0)), wave_files.plst(wave_files.entry(7, 5))
     file = wave_files.wave(wave_files.ima(), cue, wave_files.fact(5), plst, sound['IMA'][1])
     yield from both('a cue and a playlist', file)

@@ -1,6 +1,6 @@
 """Files at the borders of document 01's rules for reading, each with what the listing must print.
 
-Every expected line is worked out by hand from document 01; nothing is taken from a run of the reader.
+Every expected line is worked out by hand from documents 01 and 02; nothing is taken from a run of the reader.
 """
 import struct
 
@@ -16,6 +16,12 @@ def chunk(code, data=b'', size=None):
 def wave(*chunks, size=None, code=b'RIFF', form=b'WAVE'):
     body = form + b''.join(chunks)
     return code + struct.pack('<I', len(body) if size is None else size) + body
+
+
+def unpadded(*chunks, counted=0):
+    """A file whose last chunk is odd and without its pad; R counts so many bytes more than are there."""
+    whole = wave(*chunks)
+    return wave(*chunks, size=len(whole) - 9 + counted)[:-1]
 
 
 def fmt(tag=1, channels=1, rate=8000, average=None, align=None, bits=16, more=b''):
@@ -94,12 +100,12 @@ def lengths_and_codes():
     yield 'the right codes', whole, pcm()
     yield 'mono 8-bit PCM, no sound: 44 bytes', wave(fmt(bits=8), data(0)), pcm(0, 8)
     yield 'one byte of sound: 46 bytes', wave(fmt(bits=8), data(1)), pcm(1, 8)
-    yield 'one byte of sound without pad: 45 bytes, R 37', wave(fmt(bits=8), data(1), size=37)[:45], refused(3)
     yield 'R two too small', wave(fmt(), data(), size=len(whole) - 10), refused(3)
     yield 'R two too large', wave(fmt(), data(), size=len(whole) - 6), refused(3)
-    yield 'R odd', wave(fmt(), data(), size=len(whole) - 7), refused(3)
+    yield 'R one too small', wave(fmt(), data(), size=len(whole) - 9), refused(3)
+    yield 'R one too large', wave(fmt(), data(), size=len(whole) - 7), refused(3)
     yield 'R zero', wave(fmt(), data(), size=0), refused(3)
-    yield 'R the largest even number', wave(fmt(), data(), size=2**32 - 2), refused(3)
+    yield 'R the largest number', wave(fmt(), data(), size=2**32 - 1), refused(3)
 
 
 def the_walk():
@@ -138,6 +144,41 @@ def the_walk():
     yield 'fmt without data', wave(fmt()), refused(8)
     yield 'neither', wave(chunk(b'LIST', b'INFO')), refused(8)
     yield 'no data, and a fmt that breaks its rule', wave(fmt(tag=3)), refused(8)
+
+
+def lost_pads():
+    """Document 02: the pad may be absent where the data of a chunk end with the file, and nowhere else."""
+    eight, junk = fmt(bits=8), chunk(b'junk', b'abc')
+    yield 'one byte of sound without pad: 45 bytes, R 37', wave(eight, data(1), size=37)[:45], pcm(1, 8)
+    yield 'one byte of sound without pad: 45 bytes, R 38', wave(eight, data(1), size=38)[:45], refused(3)
+    yield 'one byte of sound with pad: 46 bytes, R 37', wave(eight, data(1), size=37), refused(3)
+    yield '301 bytes of sound without pad', unpadded(eight, data(301)), pcm(301, 8)
+    yield 'half a frame without pad', unpadded(fmt(), data(7)), refused(10)
+    yield 'an unknown chunk without pad', unpadded(fmt(), data(), junk), pcm()
+    yield 'an unknown chunk without pad, and R counts it', unpadded(fmt(), data(), junk, counted=1), refused(3)
+    yield 'an unknown chunk of one byte without pad', unpadded(fmt(), data(), chunk(b'junk', b'a')), pcm()
+    yield 'tables, and a LIST without pad', \
+        unpadded(fmt(), cue(point(7, 0)), plst(entry(7, 4)), data(), chunk(b'LIST', b'INFOabc')), EXAMPLE
+    yield 'Microsoft stereo, align 17, the sound without pad', unpadded(microsoft(2, 17, 5), fact(1), data(17)), \
+        adpcm(2, 1, 2)
+    for name, made, found in (('IMA', ima(), adpcm(17, 9)), ('Microsoft', microsoft(samples=4), adpcm(2, 4))):
+        frames = 9 if name == 'IMA' else 4
+        yield f'{name}, an unknown chunk without pad', unpadded(made, fact(frames), data(), junk), found
+        counted = chunk(b'fact', struct.pack('<IB', frames, 9))
+        yield f'{name}, a fact of 5 bytes without pad', unpadded(made, data(), counted), found
+        yield f'{name}, a fact of 3 bytes without pad', unpadded(made, data(), chunk(b'fact', b'abc')), refused(11)
+    yield 'a fmt of 17 bytes without pad, no data', unpadded(fmt(more=b'a')), refused(8)
+    yield 'data without pad, no fmt', unpadded(data(1)), refused(6)
+    yield 'a second fmt without pad', unpadded(fmt(), data(), fmt(more=b'a')), refused(5)
+    yield 'LIST of wavl without pad', unpadded(fmt(), data(), chunk(b'LIST', b'wavl?')), refused(7)
+    yield 'a cue table of 5 bytes without pad', unpadded(fmt(), data(), cue(more=b'a')), refused(12)
+    yield 'a playlist of 5 bytes without pad', unpadded(fmt(), data(), plst(more=b'a')), refused(13)
+    # The first byte of the next chunk is taken for the pad, so that the size there is 49000000 in hex.
+    yield 'no pad in the middle', wave(eight, data(7)[:-1], chunk(b'LIST', b'INFO')), refused(4)
+    yield 'a pad at the end, and one byte more', wave(eight, data(7), b'\0'), refused(4)
+    yield 'even sound, and one byte more', wave(fmt(), data(), b'\0'), refused(4)
+    yield 'odd data past the end by one', unpadded(fmt(), chunk(b'data', bytes(7), 8)), refused(4)
+    yield 'odd data past the end by two', unpadded(fmt(), chunk(b'data', bytes(7), 9)), refused(4)
 
 
 def nearly(code):
@@ -351,8 +392,8 @@ def playlists():
 def all_files():
     """Label, bytes and expected lines of each file."""
     yield 'the example of document 01', example(), EXAMPLE
-    for group in (lengths_and_codes, the_walk, letters, formats, ima_formats, microsoft_formats, frames, cue_tables,
-                  playlists):
+    for group in (lengths_and_codes, the_walk, lost_pads, letters, formats, ima_formats, microsoft_formats, frames,
+                  cue_tables, playlists):
         yield from group()
 
 

@@ -1,4 +1,5 @@
--- A file has room for all chunks that it is read by: where the walk stands, those met so far have room before. Assumes nothing.
+-- A file has room for all chunks that it is read by, if its last pad is counted where it is absent: where the walk stands, those met
+-- so far have room before. Assumes nothing.
 use mathlib.Core.Path.{_≡_, refl, sym, ap, _∙_, subst}
 use mathlib.Core.Bool.{Bool, true, false, cond}
 use mathlib.Core.List.{List, []}
@@ -52,13 +53,14 @@ module _ (s : List ℕ) where
   extent-there : (at : ℕ) → endAt s at ≤ length s → spotExtent s (At (placed s at)) ≡ extent (sizeAt s at)
   extent-there at h = ap extent (part-long s (at + 8) (sizeAt s at) (omega arith))
 
-  -- the chunks have room before a place, where a pad that is absent from the end of the file counts as if it were there
+  -- the chunks have room before a place; at the end of the file there may be a pad more in them than in the file
   abbrev Room : Directory → ℕ → Type 0
   Room d at = 12 + taken d ≤ at + (1 - (length s - at))
 
   tiled : (at : ℕ) (d : Directory) (p : Place) → Met s at d p → at < length s → Room d at → Room (keep d p (p .kind)) (nextAt s at)
   tiled at d p m l h =
-      let e : spotExtent s (At p) ≡ extent (sizeAt s at) = ap (λ (q : Place). spotExtent s (At q)) (sym (m .same)) ∙ extent-there at (m .fits) in
+      let e : spotExtent s (At p) ≡ extent (sizeAt s at) =
+      ap (λ (q : Place). spotExtent s (At q)) (sym (m .same)) ∙ extent-there at (m .fits) in
       omega (arith, taken-more d p (p .kind) (m .new), next-place (sizeAt s at) (endAt s at) (length s) (m .fits))
 
   -- ---- the walk
@@ -98,7 +100,7 @@ even-extent : (s : List ℕ) (spot : Spot) → spotExtent s spot % 2 ≡ 0
 even-extent s (At p) = omega arith
 even-extent s Missing = refl
 
--- all of them are of even length with their pads, and the file is longer than that, or shorter by a pad alone
+-- each is of even length with its pad, so that an even file has room for them as it is
 pub room-for-all : (s : List ℕ) (d : Directory) → directoryOf s ≡ Whole d
     → 12 + (spotExtent s (d .format) + (spotExtent s (d .fact) + (spotExtent s (d .cues) + (spotExtent s (d .plays) + spotExtent s (d .sound)))))
     ≤ length s + length s % 2

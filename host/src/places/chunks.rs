@@ -49,14 +49,14 @@ impl Chunk {
         self.at + 8
     }
 
-    /// Where the next chunk starts, if this one ends as it says.
+    /// Where its data end, if there are as many as it says.
     pub fn end(&self) -> usize {
-        self.start() + self.size + self.size % 2
+        self.start() + self.size
     }
 
     /// Its data, as much of them as the file has.
     pub fn data<'a>(&self, file: &'a [u8]) -> &'a [u8] {
-        &file[self.start()..file.len().min(self.start() + self.size)]
+        &file[self.start()..file.len().min(self.end())]
     }
 
     /// A fault of the chunk as a whole.
@@ -98,7 +98,8 @@ pub fn chunks(file: &[u8]) -> impl Iterator<Item = Result<Chunk, Passing>> + '_ 
         if chunk.end() > file.len() {
             return Some(Err(Passing::Chunk(chunk)));
         }
-        next = chunk.end();
+        // Past the end where the last pad is absent.
+        next = chunk.end() + chunk.size % 2;
         Some(Ok(chunk))
     })
 }

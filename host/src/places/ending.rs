@@ -1,5 +1,5 @@
 //! How a file ends whose sizes do not agree with its length.
-use super::chunks::{find_any, number, passing, Chunk, Passing};
+use super::chunks::{find_any, number, passing, Chunk};
 
 /// How a file ends.
 #[derive(Clone, Copy, Debug, PartialEq, Eq)]
@@ -8,7 +8,7 @@ pub enum Ending {
     Unfinished,
     /// The chunks end where the RIFF size says, and more bytes come after.
     More,
-    /// The chunks fill the file, but for the last pad perhaps.
+    /// The chunks fill the file; the last pad may be absent.
     Full,
     /// The file is shorter than the RIFF size says by so many bytes, and something in it passes the end.
     Missing(u64),
@@ -43,12 +43,12 @@ pub fn ending(file: &[u8]) -> Ending {
         return Ending::Unfinished;
     }
     let past = passing(file);
-    let last_pad = matches!(past, Some(Passing::Chunk(chunk)) if chunk.end() == file.len() + 1);
+    let pad_not_counted = past.is_none() && said + 1 == there;
     if past.is_some() && open_sound(file).is_some() {
         Ending::Unfinished
-    } else if (12..there).contains(&said) && passing(&file[..said as usize]).is_none() {
+    } else if !pad_not_counted && (12..there).contains(&said) && passing(&file[..said as usize]).is_none() {
         Ending::More
-    } else if past.is_none() || last_pad {
+    } else if past.is_none() {
         Ending::Full
     } else if said > there {
         Ending::Missing(said - there)

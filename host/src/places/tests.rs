@@ -64,7 +64,9 @@ fn heads_and_sizes() {
         "file code at byte 0: it is 'RIFX', and must be 'RIFF': this is a big-endian WAVE file (RIFX)"
     });
     assert_eq!(line(2, b"RIFF\0\0\0\0AV\n "), r"form type at byte 8: it is 'AV\n ', and must be 'WAVE'");
-    assert_eq!(line(3, &sized(45)), "RIFF size at byte 4: it is 45, which is odd; the file has 52 bytes");
+    assert_eq!(line(3, &sized(45)), {
+        "RIFF size at byte 4: it is 45, for a file of 53 bytes; this one has 52, 1 too few"
+    });
     assert_eq!(line(3, &sized(46)), {
         "RIFF size at byte 4: it is 46, for a file of 54 bytes; this one has 52, 2 too few"
     });
@@ -79,7 +81,7 @@ fn heads_and_sizes() {
 fn chunks_by_themselves() {
     let junk = |size: u8| [&b"junk"[..], &[size, 0, 0, 0]].concat();
     assert_eq!(line(4, &wave(&[plain(), data(8), junk(7)])), {
-        "chunk 'junk', size at byte 56: it is 7 and a pad byte, up to byte 68; the file ends at byte 60"
+        "chunk 'junk', size at byte 56: it is 7, up to byte 67; the file ends at byte 60"
     });
     assert_eq!(line(4, &wave(&[plain(), data(8), b"LI".to_vec()])), {
         "byte 52: the file ends at byte 54, in a chunk's header"
