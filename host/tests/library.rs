@@ -33,9 +33,11 @@ fn files_without_sound_and_with_one_byte() {
     assert_eq!((none.len(), one.len()), (44, 46));
     assert_eq!((read(&none), read(&one)), (Ok(eight_bit(0)), Ok(eight_bit(1))));
     assert_eq!((sound_of(&none), sound_of(&one)), (Ok(&[][..]), Ok(&[7][..])));
-    let mut cut = one[..45].to_vec();
-    cut[4] = 37;
-    assert_eq!(read(&cut), Err(Refusal::RiffSizeWrong));
+    let mut bare = one[..45].to_vec();
+    assert_eq!(read(&bare), Err(Refusal::RiffSizeWrong));
+    bare[4] = 37;
+    assert_eq!((read(&bare), sound_of(&bare)), (Ok(eight_bit(1)), Ok(&[7][..])));
+    assert_eq!(made(write(&eight_bit(1), sound_of(&bare).unwrap())), Ok(one));
     assert_eq!(read(&[]), Err(Refusal::LengthOutOfRange));
 }
 

@@ -1,7 +1,7 @@
 """Where the fault of a refused file is, by a walk that is not the command's own."""
 import struct
 
-from host.run import refusal_in
+from host.run import escaped, refusal_in
 from host.walk import walked
 from second import reader as second_reader
 from vectors import many_files
@@ -122,7 +122,7 @@ def past_the_end(file):
     if at is None and stop + 8 > len(file):
         return {'byte': stop}
     at = stop if at is None else at
-    return {'chunk': file[at:at + 4].decode(), 'field': 'size', 'byte': at + 4}
+    return {'chunk': escaped(file[at:at + 4]), 'field': 'size', 'byte': at + 4}
 
 
 def walk_place(number, file):
