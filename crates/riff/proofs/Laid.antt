@@ -89,7 +89,7 @@ module _ (s : List ℕ) (limit : length s ≤ fileLimit) {R : Type 0} where
       let x : Pad = padAfter n (at + 8 + n) (length s) in
       let e : at + 8 + n + padSize x ≡ at + 8 + n + n % 2 = omega (arith, next-place n (at + 8 + n) (length s) (omega arith)) in
       let p : Place =
-      record { kind = kindOf c; start = record { 0 = at + 8 }; size = record { 0 = n }; pad = x; next = record { 0 = at + 8 + n + padSize x } } in
+      record { kind = kindOf c; pad = x; start = record { 0 = at + 8 }; size = record { 0 = n }; next = record { 0 = at + 8 + n + padSize x } } in
       let a = place-whole s (record { 0 = at }) (omega arith) (omega arith) (sym b) (omega arith) (sym k) refl refl in
       let t = step-on s (record { 0 = at }) d a refl refl (sym (ap isThere new)) refl (sym late) refl (sym (plain p)) refl in
       go p (bytes-there s at c bytes (bodyBytes ps) (w .left))

@@ -80,7 +80,7 @@ module _ (s : List ℕ) (at : BytePlace) where
 
     pub place-whole : {k : Kind} {p : Pad} {m : ℕ} → at .0 + 8 + n ≤ length s → k ≡ kindAt s (at .0)
         → p ≡ padAfter n (at .0 + 8 + n) (length s) → m ≡ padSize p
-        → Chunk (record { kind = k; start = record { 0 = at .0 + 8 }; size = record { 0 = n }; pad = p; next = record { 0 = at .0 + 8 + n + m } })
+        → Chunk (record { kind = k; pad = p; start = record { 0 = at .0 + 8 }; size = record { 0 = n }; next = record { 0 = at .0 + 8 + n + m } })
         ≡ placeAt s at
     unfolding placeAt
     place-whole k e f g =

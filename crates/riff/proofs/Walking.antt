@@ -1,5 +1,5 @@
 -- The walk: what is left of it at a place, and how a step goes on from there. Assumes nothing.
-use mathlib.Core.Path.{_≡_, refl, sym, ap, _∙_}
+use mathlib.Core.Path.{_≡_, refl, sym, ap, _∙_, subst}
 use mathlib.Core.Bool.{Bool, true, false, cond, _||_}
 use mathlib.Core.List.{List}
 use Prim.Native.Nat.{ℕ, zero, suc, _+_, _-_, _≤_, _<_}
@@ -13,13 +13,15 @@ use Rattle.units.specs.declared.Refusal.{Refusal}
 use Rattle.units.specs.declared.Refusal.the-variants.{LengthOutOfRange, ChunkPastTheEnd, SecondOfItsKind, DataBeforeFormat, WaveList}
 use Rattle.units.specs.declared.Verdict.{Verdict}
 use Rattle.units.specs.declared.Verdict.the-variants as verdict
+use Rattle.riff.specs.declared.Kind.{Kind}
+use Rattle.riff.specs.declared.Kind.the-variants.{Format, Sound, Fact, Cues, Plays, Listing, Other}
 use Rattle.riff.specs.declared.Place.{Place}
 use Rattle.riff.specs.declared.Step.{Step}
 use Rattle.riff.specs.declared.Step.the-variants.{Chunk, Refused}
 use Rattle.riff.specs.declared.Directory.{Directory}
 use Rattle.riff.specs.declared.Walked.{Walked}
 use Rattle.riff.specs.declared.Walked.the-variants.{Whole, Stopped}
-use Rattle.riff.specs.Chunks.{headVerdict, endAt, nextAt, placed, passes, placeAt, spotOf, isThere, keep, early, waveList, checked, chunkAt}
+use Rattle.riff.specs.Chunks.{headVerdict, endAt, nextAt, placed, passes, placeAt, spotOf, isThere, isKept, keep, early, waveList, checked, chunkAt}
 use Rattle.riff.specs.Walk.{nothingYet, stepThen, stepsFrom, stepsOf, gather, walkOf, afterHead, directoryOf, refusalOf}
 use Rattle.riff.proofs.Heading.{head-short, head-long}
 
@@ -108,6 +110,16 @@ module _ (s : List ℕ) (at : ℕ) (d : Directory) where
   ends zero h = refl
   ends (suc n) h = simp (le-ltb at (length s) h)
 
+-- where the directory has no spot for a kind it stays as it is
+stays : (d : Directory) (p : Place) (k : Kind) → keep d p k ≡ cond (isKept k) (keep d p k) d
+stays d p Format = refl
+stays d p Sound = refl
+stays d p Fact = refl
+stays d p Cues = refl
+stays d p Plays = refl
+stays d p Listing = refl
+stays d p Other = refl
+
 -- ---- in the words of the code
 pub walk-begins : (s : List ℕ) {d : Directory} → d ≡ nothingYet → Rest s 12 d
 unfolding walkOf stepsOf
@@ -125,10 +137,14 @@ module _ {s : List ℕ} {at : ℕ} {d : Directory} (w : Rest s at d) where
       pub walk-on : {e : Directory} → e ≡ keep d p (p .kind) → Rest s (p .next .0) e
       walk-on f = rw f (goes s at d (w .turns) p h (w .enough) (later s (record { 0 = at }) d p (sym a ∙ b)) (sym a ∙ b) (w .same))
 
+      pub walk-past : {b : Bool} → b ≡ isKept (p .kind) → b ≡ false → Rest s (p .next .0) d
+      walk-past f g =
+          subst (Rest s (p .next .0)) (stays d p (p .kind) ∙ ap (λ (x : Bool). cond x (keep d p (p .kind)) d) (sym f ∙ g)) (walk-on refl)
+
       pub walk-less : length s - p .next .0 < length s - at
       walk-less = let k = later s (record { 0 = at }) d p (sym a ∙ b) in omega arith
 
-pub ruleset walking = (walk-begins, walk-ends, walk-stops, walk-on, walk-less)
+pub ruleset walking = (walk-begins, walk-ends, walk-stops, walk-on, walk-past, walk-less)
 
 -- ---- the header before the walk
 module _ (s : List ℕ) {v : Verdict} (e : v ≡ headVerdict s) where

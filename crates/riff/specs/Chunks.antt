@@ -88,9 +88,9 @@ abbrev pub placed : List ℕ → ℕ → Place
 placed s at =
     record {
       kind = kindAt s at;
+      pad = padAt s at;
       start = record { 0 = at + 8 };
       size = record { 0 = sizeAt s at };
-      pad = padAt s at;
       next = record { 0 = nextAt s at };
     }
 
@@ -119,6 +119,16 @@ spotOf d Other = Missing
 
 abbrev pub directory : Spot → Spot → Spot → Spot → Spot → Directory
 directory format sound fact cues plays = record { format = format; sound = sound; fact = fact; cues = cues; plays = plays }
+
+-- whether there is a spot for chunks of a kind
+abbrev pub isKept : Kind → Bool
+isKept Format = true
+isKept Sound = true
+isKept Fact = true
+isKept Cues = true
+isKept Plays = true
+isKept Listing = false
+isKept Other = false
 
 -- the directory with one chunk more
 abbrev pub keep : Directory → Place → Kind → Directory

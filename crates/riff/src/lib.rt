@@ -10,7 +10,7 @@ ghost use mathlib.Core.Path.{_≡_};
 ghost use Prim.Native.Nat.{_+_, _≤_, min};
 ghost use lib.ListN.{length, take, drop};
 ghost use Rattle.little.specs.Writing.{Put};
-ghost use Rattle.riff.specs.Chunks.{headVerdict, kindAt, padAfter, padSize, placeAt, spotOf, isThere, early, startsAsWaves, waveList, chunkAt, directory, keep};
+ghost use Rattle.riff.specs.Chunks.{headVerdict, kindAt, padAfter, padSize, placeAt, spotOf, isThere, early, startsAsWaves, waveList, chunkAt, directory, isKept, keep};
 ghost use Rattle.riff.specs.Walk.{refusalOf, walkOf, directoryOf, partOf, bySpot, startOf};
 ghost use Rattle.riff.specs.Laying.{headBytes, riffBytes};
 
@@ -32,13 +32,13 @@ pub enum Pad {
     Absent,
 }
 
-// A chunk: where its data start, how many bytes they are, whether their pad is there, and where the next
-// chunk starts.
+// A chunk: what it is, whether its pad is there, where its data start, how many bytes they are, and where
+// the next chunk starts. The two small fields stand together, which leaves one gap in memory and not two.
 pub struct Place {
     pub kind: Kind,
+    pub pad: Pad,
     pub start: BytePlace,
     pub size: BytePlace,
-    pub pad: Pad,
     pub next: BytePlace,
 }
 
@@ -164,9 +164,9 @@ fn place_at(file: &[u8], at: BytePlace) -> Step
     let pad = pad_after(size, end, file.len());
     Step::Chunk(Place {
         kind: kind,
+        pad: pad,
         start: BytePlace(a + 8),
         size: BytePlace(size),
-        pad: pad,
         next: BytePlace(end + pad_size(pad)),
     })
 }
@@ -273,6 +273,21 @@ fn listed(format: Spot, sound: Spot, fact: Spot, cues: Spot, plays: Spot) -> Dir
     }
 }
 
+// Whether the directory has a spot for chunks of a kind.
+fn is_kept(kind: Kind) -> bool
+    ensures answer { λ r. ⌜ r ≡ isKept kind ⌝ }
+{
+    match kind {
+        Kind::Format => true,
+        Kind::Sound => true,
+        Kind::Fact => true,
+        Kind::Cues => true,
+        Kind::Plays => true,
+        Kind::Listing => false,
+        Kind::Other => false,
+    }
+}
+
 // The directory with one chunk more.
 fn kept(seen: Directory, place: Place) -> Directory
     ensures answer { λ r. ⌜ r ≡ keep seen place (place .kind) ⌝ }
@@ -305,7 +320,8 @@ fn refusal_of(step: Step) -> Refusal
     }
 }
 
-// The walk over the chunks from byte 12.
+// The walk over the chunks from byte 12. The directory is made anew only for a chunk that it keeps: to
+// carry it over where it stays as it is would cost more than the rest of a turn.
 fn walk(file: &[u8]) -> Walked
     ensures answer { λ r. ⌜ r ≡ walkOf (now (file .entry)) ⌝ }
 {
@@ -317,8 +333,11 @@ fn walk(file: &[u8]) -> Walked
         let Step::Chunk(place) = step else {
             return Walked::Stopped(refusal_of(step));
         };
-        seen = kept(seen, place);
+        let kind = place.kind;
         at = place.next.0;
+        if is_kept(kind) {
+            seen = kept(seen, place);
+        }
     }
     Walked::Whole(seen)
 }

@@ -17,5 +17,5 @@ walk-spec =
     tie.close
     (tie.spec Inv-loop μ-loop (λ c κs. search needs) (λ c. search (needs, walking)) (λ c κs. search needs)
     (λ c. search needs) (λ c. search needs) (λ c κs. search needs) (λ c. search (needs, walking))
-    (λ c κs. search needs) (λ c. search (needs, walking)) (λ c. search (needs, walking))
-    (λ c. search (needs, walking)))
+    (λ c κs. search needs) (λ c κs. search needs) (λ c. search (needs, walking)) (λ c. search (needs, walking))
+    (λ c. search (needs, walking)) (λ c. search (needs, walking)) (λ c. search (needs, walking)))
