@@ -1,5 +1,5 @@
 /* The second implementation: each function gives what the function of the same name in tronalhet.h
- * gives. It is written from document 01 alone and shares no code with the library. */
+ * gives. It is written from documents 01 and 02 alone and shares no code with the library. */
 #ifndef SECOND_H
 #define SECOND_H
 

@@ -67,7 +67,7 @@ def other_files():
 
 
 def without_pad():
-    """Yields the path of each file without its last pad, and by program the sums of what is heard with it and without."""
+    """Yields the path of each file without its last pad, and by program the sums of what is heard with and without."""
     for path in paths(HEARD):
         if path.stem.endswith('-no-pad'):
             rows = [line.split() for line in path.with_suffix('.txt').read_text().splitlines()]

@@ -71,8 +71,8 @@ def emptied(label, folder, names_there):
 
 
 def at_the_limit(folder):
-    """A file of the most bytes is listed and checked without being read, and so is one that lacks the pad that would make
-    it as long; a longer one is refused, whatever is asked."""
+    """A file of the most bytes, and one that lacks just its last pad, are listed and checked without being read; a
+    longer one is refused, whatever is asked."""
     sizes = {'most.wav': MOST, 'bare.wav': MOST - 1, 'over.wav': MOST + 1, 'more.wav': 5 << 30}
     for name, size in sizes.items():
         sparse(folder / name, size, head_of(min(size, MOST)))

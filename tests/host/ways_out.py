@@ -87,8 +87,10 @@ def endings():
     yield 'R for a pad that is absent', unpadded(fmt(bits=8), data(7), counted=1), anew
     yield 'R without a pad that is there', wave(fmt(bits=8), data(7), size=whole - 9), anew
     yield 'bytes missing', wave(fmt(), data(1000))[:-300], f'300 bytes are missing at the end: {AGAIN}'
-    tagged = wave(fmt(), data()) + b'TAG' + bytes(125)
-    yield 'an ID3 tag at the end', tagged, 'to leave out what comes after the end: ' + sox()
+    yield 'a byte missing', wave(fmt(), data())[:-1], f'1 byte is missing at the end: {AGAIN}'
+    for label, file in (('a pad', wave(fmt(), data())), ('no pad', unpadded(fmt(bits=8), data(7)))):
+        tagged = file + b'TAG' + bytes(125)
+        yield f'{label}, and an ID3 tag at the end', tagged, 'to leave out what comes after the end: ' + sox()
     yield 'a LIST cut', wave(fmt(), data(), chunk(b'LIST', bytes(100)))[:-40], kept
     yield 'a LIST past the end', wave(fmt(), data(), chunk(b'LIST', b'', 2)), kept
     yield 'data past the end', wave(fmt(), chunk(b'data', bytes(8), 10)), AGAIN

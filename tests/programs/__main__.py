@@ -24,6 +24,8 @@ def listings():
     full = '\n'.join(wave_files.pcm(65536 - 44, 8)) + '\n'
     refused = 'refused 1\n'
     yield '65,536 bytes', run('wave_list', input=long_file(65536)), full
+    bare = wave_files.unpadded(wave_files.fmt(bits=8), wave_files.data(65535 - 44))
+    yield '65,535 bytes without pad', run('wave_list', input=bare), '\n'.join(wave_files.pcm(65535 - 44, 8)) + '\n'
     yield '65,537 bytes', run('wave_list', input=long_file(65536) + b'\0'), refused
     yield '65,538 bytes', run('wave_list', input=long_file(65538)), refused
     yield '65,537 bytes that are no WAVE file', run('wave_list', input=bytes(65537)), refused

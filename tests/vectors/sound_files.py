@@ -309,7 +309,7 @@ def lengths():
 
 
 def places():
-    """The sound anywhere among other chunks, and odd lengths with their pads."""
+    """The sound anywhere among other chunks, and odd lengths with their pads, or without the last."""
     junk, list_ = wave_files.chunk(b'junk', b'odd'), wave_files.chunk(b'LIST', b'INFO' + b'data' * 3)
     blocks = block('1f', (0, 16, 100, 50)) * 2
     sound = {'8 bits': (wave_files.fmt(bits=8), wave_files.chunk(b'data', bytes([1, 2, 3]))),

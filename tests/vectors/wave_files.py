@@ -161,24 +161,25 @@ def lost_pads():
         unpadded(fmt(), cue(point(7, 0)), plst(entry(7, 4)), data(), chunk(b'LIST', b'INFOabc')), EXAMPLE
     yield 'Microsoft stereo, align 17, the sound without pad', unpadded(microsoft(2, 17, 5), fact(1), data(17)), \
         adpcm(2, 1, 2)
-    for name, made, found in (('IMA', ima(), adpcm(17, 9)), ('Microsoft', microsoft(samples=4), adpcm(2, 4))):
-        frames = 9 if name == 'IMA' else 4
+    for name, made, tag, frames in (('IMA', ima(), 17, 9), ('Microsoft', microsoft(), 2, 4)):
+        found, longer = adpcm(tag, frames), chunk(b'fact', struct.pack('<IB', frames, 9))
         yield f'{name}, an unknown chunk without pad', unpadded(made, fact(frames), data(), junk), found
-        counted = chunk(b'fact', struct.pack('<IB', frames, 9))
-        yield f'{name}, a fact of 5 bytes without pad', unpadded(made, data(), counted), found
+        yield f'{name}, a fact of 5 bytes without pad', unpadded(made, data(), longer), found
         yield f'{name}, a fact of 3 bytes without pad', unpadded(made, data(), chunk(b'fact', b'abc')), refused(11)
     yield 'a fmt of 17 bytes without pad, no data', unpadded(fmt(more=b'a')), refused(8)
     yield 'data without pad, no fmt', unpadded(data(1)), refused(6)
     yield 'a second fmt without pad', unpadded(fmt(), data(), fmt(more=b'a')), refused(5)
     yield 'LIST of wavl without pad', unpadded(fmt(), data(), chunk(b'LIST', b'wavl?')), refused(7)
+    yield 'LIST of three bytes, wav, without pad', unpadded(fmt(), data(), chunk(b'LIST', b'wav')), pcm()
     yield 'a cue table of 5 bytes without pad', unpadded(fmt(), data(), cue(more=b'a')), refused(12)
     yield 'a playlist of 5 bytes without pad', unpadded(fmt(), data(), plst(more=b'a')), refused(13)
     # The first byte of the next chunk is taken for the pad, so that the size there is 49000000 in hex.
     yield 'no pad in the middle', wave(eight, data(7)[:-1], chunk(b'LIST', b'INFO')), refused(4)
     yield 'a pad at the end, and one byte more', wave(eight, data(7), b'\0'), refused(4)
     yield 'even sound, and one byte more', wave(fmt(), data(), b'\0'), refused(4)
-    yield 'odd data past the end by one', unpadded(fmt(), chunk(b'data', bytes(7), 8)), refused(4)
-    yield 'odd data past the end by two', unpadded(fmt(), chunk(b'data', bytes(7), 9)), refused(4)
+    yield 'one byte after the header: 13 bytes, R 5', wave(b'a'), refused(4)
+    yield 'even data past the end by one, in an odd file', unpadded(fmt(), chunk(b'data', bytes(7), 8)), refused(4)
+    yield 'odd data past the end by two, in an odd file', unpadded(fmt(), chunk(b'data', bytes(7), 9)), refused(4)
 
 
 def nearly(code):

@@ -2,22 +2,19 @@
 -- Assumes nothing.
 use mathlib.Core.Path.{_≡_, refl, subst}
 use mathlib.Core.Bool.{Bool, true, false, cond}
-use mathlib.Core.List.{List, []}
-use Prim.Native.Nat.{ℕ, zero, suc, _+_, _%_, _≤_, min}
+use mathlib.Core.List.{List}
+use Prim.Native.Nat.{ℕ, _+_, _%_, _≤_, min}
 use native.Mathlib.Omega.{arith}
 use lib.Dec.{eqb}
 use lib.ListN.{length}
-use borrow.Author.Tests.{eqb-true, eqb-false, le-ltb}
+use borrow.Author.Tests.{eqb-true, eqb-false}
 use Rattle.little.proofs.Tests.{tests}
-use Rattle.units.specs.declared.BytePlace.{BytePlace}
 use Rattle.riff.specs.declared.Pad.{Pad}
 use Rattle.riff.specs.declared.Pad.the-variants.{NotNeeded, There, Absent}
 use Rattle.riff.specs.declared.Place.{Place}
-use Rattle.riff.specs.declared.Directory.{Directory}
 use Rattle.riff.specs.Chunks.{sizeAt, endAt, padAfter, padSize, padAt, nextAt, placed}
-use Rattle.riff.specs.Walk.{stepsFrom}
 use Rattle.riff.specs.Demands.{padSays, PadTold}
-use Rattle.riff.proofs.Walking.{met}
+use Rattle.riff.proofs.Walking.{none-left, met}
 
 module _ (size end long : ℕ) where
   pub pad-even : size % 2 ≡ 0 → NotNeeded ≡ padAfter size end long
@@ -51,12 +48,6 @@ pub ruleset padding = (pad-even, pad-absent, pad-there)
 
 -- ---- what the pad of a chunk says
 
--- from the end of the file on there are no steps
-none-left : (s : List ℕ) (at : BytePlace) → length s ≤ at .0 → (n : ℕ) (d : Directory) → stepsFrom n s at d ≡ []
-unfolding stepsFrom
-none-left s at h zero d = refl
-none-left s at h (suc n) d = simp (le-ltb (at .0) (length s) h)
-
 says : (s : List ℕ) (at : ℕ) → endAt s at ≤ length s → padSays s (placed s at) (padAt s at)
 unfolding padAfter
 says s at fits = by (eqb (sizeAt s at % 2) 0) (eqb (endAt s at) (length s)) refl refl
@@ -67,7 +58,7 @@ says s at fits = by (eqb (sizeAt s at % 2) 0) (eqb (endAt s at) (length s)) refl
     by false true e f =
         let odd = eqb-false (sizeAt s at % 2) 0 e in
         let end = eqb-true (endAt s at) (length s) f in
-        (omega arith, end, none-left s (record { 0 = nextAt s at }) (omega arith))
+        (omega arith, end, λ n d. none-left s (nextAt s at) d n (omega arith))
     by false false e f =
         let odd = eqb-false (sizeAt s at % 2) 0 e in
         let before = eqb-false (endAt s at) (length s) f in

@@ -1,7 +1,7 @@
 -- The walk: what is left of it at a place, and how a step goes on from there. Assumes nothing.
 use mathlib.Core.Path.{_≡_, refl, sym, ap, _∙_, subst}
 use mathlib.Core.Bool.{Bool, true, false, cond, _||_}
-use mathlib.Core.List.{List}
+use mathlib.Core.List.{List, []}
 use Prim.Native.Nat.{ℕ, zero, suc, _+_, _-_, _≤_, _<_}
 use native.Mathlib.Omega.{arith}
 use lib.Dec.{ltb}
@@ -105,10 +105,15 @@ module _ (s : List ℕ) (at : ℕ) (d : Directory) where
   goes (suc n) p h e m t w =
       record { turns = n; enough = omega arith; same = sym (ap (gather d) (one n h ∙ ap (stepThen (stepsFrom n s) d) t)) ∙ w }
 
+  -- from the end of the file on there are no steps
+  pub none-left : (n : ℕ) → length s ≤ at → stepsFrom n s (record { 0 = at }) d ≡ []
+  unfolding stepsFrom
+  none-left zero h = refl
+  none-left (suc n) h = simp (le-ltb at (length s) h)
+
   ends : (n : ℕ) → length s ≤ at → Whole d ≡ gather d (stepsFrom n s (record { 0 = at }) d)
-  unfolding stepsFrom gather
-  ends zero h = refl
-  ends (suc n) h = simp (le-ltb at (length s) h)
+  unfolding gather
+  ends n h = sym (ap (gather d) (none-left n h))
 
 -- where the directory has no spot for a kind it stays as it is
 stays : (d : Directory) (p : Place) (k : Kind) → keep d p k ≡ cond (isKept k) (keep d p k) d
@@ -137,9 +142,9 @@ module _ {s : List ℕ} {at : ℕ} {d : Directory} (w : Rest s at d) where
       pub walk-on : {e : Directory} → e ≡ keep d p (p .kind) → Rest s (p .next .0) e
       walk-on f = rw f (goes s at d (w .turns) p h (w .enough) (later s (record { 0 = at }) d p (sym a ∙ b)) (sym a ∙ b) (w .same))
 
-      pub walk-past : {b : Bool} → b ≡ isKept (p .kind) → b ≡ false → Rest s (p .next .0) d
+      pub walk-past : {x : Bool} → x ≡ isKept (p .kind) → x ≡ false → Rest s (p .next .0) d
       walk-past f g =
-          subst (Rest s (p .next .0)) (stays d p (p .kind) ∙ ap (λ (x : Bool). cond x (keep d p (p .kind)) d) (sym f ∙ g)) (walk-on refl)
+          subst (Rest s (p .next .0)) (stays d p (p .kind) ∙ ap (λ (y : Bool). cond y (keep d p (p .kind)) d) (sym f ∙ g)) (walk-on refl)
 
       pub walk-less : length s - p .next .0 < length s - at
       walk-less = let k = later s (record { 0 = at }) d p (sym a ∙ b) in omega arith

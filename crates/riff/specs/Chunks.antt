@@ -67,10 +67,12 @@ sizeAt s at = numberAt 4 s (at + 4)
 abbrev pub endAt : List ℕ → ℕ → ℕ
 endAt s at = at + 8 + sizeAt s at
 
--- the pad after data of a size that end at a place: "it may be absent only where the chunk's data ends at the file's end"
+-- the pad after data of a size that end at a place, in a file so long: "it may be absent only where the chunk's data ends at the
+-- file's end"
 unfoldable pub padAfter : ℕ → ℕ → ℕ → Pad
-padAfter size end length = cond (eqb (size % 2) 0) NotNeeded (cond (eqb end length) Absent There)
+padAfter size end long = cond (eqb (size % 2) 0) NotNeeded (cond (eqb end long) Absent There)
 
+-- how many bytes it has
 abbrev pub padSize : Pad → ℕ
 padSize NotNeeded = 0
 padSize There = 1

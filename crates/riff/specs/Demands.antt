@@ -78,7 +78,7 @@ pub record Reads (s : List ℕ) (p : Parts) : Type 0 where
   pub cues : (absent : List ℕ) → partOf s (places .cues) absent ≡ cond (p .cues .there) (p .cues .bytes) absent
   pub plays : (absent : List ℕ) → partOf s (places .plays) absent ≡ cond (p .plays .there) (p .plays .bytes) absent
 
--- the bytes of a chunk that was met
+-- the bytes of a chunk that was met, with its pad, also where that is absent
 abbrev pub spotExtent : List ℕ → Spot → ℕ
 spotExtent s (At p) = extent (length (partOf s (At p) []))
 spotExtent s Missing = 0

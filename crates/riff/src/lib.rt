@@ -119,14 +119,14 @@ fn kind_at(file: &[u8], at: usize) -> Kind
     Kind::Other
 }
 
-// The pad after data of some size that end at a place: absent only where they end with the file.
-fn pad_after(size: usize, end: usize, length: usize) -> Pad
-    ensures answer { λ r. ⌜ r ≡ padAfter size end length ⌝ }
+// The pad after data of some size that end at a place, in a file so long: absent only where they end with it.
+fn pad_after(size: usize, end: usize, long: usize) -> Pad
+    ensures answer { λ r. ⌜ r ≡ padAfter size end long ⌝ }
 {
     if size % 2 == 0 {
         return Pad::NotNeeded;
     }
-    if end == length {
+    if end == long {
         return Pad::Absent;
     }
     Pad::There

@@ -25,7 +25,7 @@ fn keep(number: Donation, file: &[u8]) {
     files::size(file);
 }
 
-// Adds a song to a side. A side has an even number of bytes, so in this room it has 262,144 at most.
+// Adds a song to a side. The new side has an even number of bytes, so in this room it has 262,144 at most.
 fn add(side: &[u8], song: &[u8], number: Donation, limit: Frames) {
     let mut out = files::file_room();
     match wave::add(side, song, number, limit, &mut out) {

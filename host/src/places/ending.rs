@@ -43,10 +43,11 @@ pub fn ending(file: &[u8]) -> Ending {
         return Ending::Unfinished;
     }
     let past = passing(file);
-    let pad_not_counted = past.is_none() && said + 1 == there;
+    // One byte more than R says is the last pad, and not something after the end.
+    let one_more = past.is_none() && said + 1 == there;
     if past.is_some() && open_sound(file).is_some() {
         Ending::Unfinished
-    } else if !pad_not_counted && (12..there).contains(&said) && passing(&file[..said as usize]).is_none() {
+    } else if !one_more && (12..there).contains(&said) && passing(&file[..said as usize]).is_none() {
         Ending::More
     } else if past.is_none() {
         Ending::Full

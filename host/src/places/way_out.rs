@@ -62,6 +62,7 @@ impl Source<'_> {
             Ending::Full => self.copied("to write the sizes anew"),
             Ending::More => self.copied("to leave out what comes after the end"),
             _ if whole(b"fmt ") && whole(b"data") => self.copied("to keep the sound, which is whole"),
+            Ending::Missing(1) => Some(format!("1 byte is missing at the end: {ASK_AGAIN}")),
             Ending::Missing(bytes) => Some(format!("{bytes} bytes are missing at the end: {ASK_AGAIN}")),
             Ending::Broken => Some(ASK_AGAIN.into()),
         }
