@@ -107,8 +107,9 @@ def listing(file):
     lines = [f'wave tag {tag} channels {channels} rate {rate} bits {bits} frames {length}']
     lines += [f'cue {name} at {place}' for name, _, place in cues]
     lines += [f'play {name} length {count} times {times}' for name, count, times in plays]
+    pad = 'not needed' if len(sound) % 2 == 0 else 'absent' if start + len(sound) == len(file) else 'there'
     return lines, [f'align {align} samples {samples} positions' + ''.join(f' {position}' for _, position, _ in cues),
-                   f'sound at {start} bytes {len(sound)} mixed {mixed(sound)}']
+                   f'sound at {start} pad {pad} bytes {len(sound)} mixed {mixed(sound)}']
 
 
 def mixed(numbers):

@@ -33,7 +33,7 @@ pub enum Pad {
 }
 
 // A chunk: what it is, whether its pad is there, where its data start, how many bytes they are, and where
-// the next chunk starts. The two small fields stand together, which leaves one gap in memory and not two.
+// the next chunk starts. The two small fields stand first, which leaves one gap in memory and not two.
 pub struct Place {
     pub kind: Kind,
     pub pad: Pad,

@@ -1,9 +1,10 @@
 // Reads a file. An entry is the length of the label in two bytes, the label, the length of the file in four, and the
 // file.
 //
-// It prints the listing and what the listing leaves out: align, samples per block, the positions of the cues, and
-// where the sound stands.
+// It prints the listing and what the listing leaves out: align, samples per block, the positions of the cues, where
+// the sound stands, and whether its pad is there.
 use crate::entries::label;
+use riff::Pad;
 use riff::Spot;
 use tables::Cue;
 use tables::Cues;
@@ -26,14 +27,24 @@ fn positions(cues: Cues) {
     }
 }
 
-// Where the sound of a file starts, how long it is, and a number mixed of it.
+// Whether a pad is there.
+fn pad_words(pad: Pad) {
+    match pad {
+        Pad::NotNeeded => show::word(b" pad not needed "),
+        Pad::There => show::word(b" pad there "),
+        Pad::Absent => show::word(b" pad absent "),
+    }
+}
+
+// Where the sound of a file starts, its pad, how long it is, and a number mixed of it.
 fn sound_line(file: &[u8]) {
     let spot = reader::sound_spot(file);
     let bytes = reader::sound_of(file);
     show::word(b"sound ");
     if let Spot::At(place) = spot {
+        let pad = place.pad;
         show::field(b"at ", place.start.0 as u64);
-        show::word(b" ");
+        pad_words(pad);
     }
     show::mixed_line(bytes);
 }
