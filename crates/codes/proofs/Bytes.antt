@@ -6,7 +6,7 @@ use lib.Dec.{T, eqb, leb, eqb→eq, leb→le}
 use lib.ListN.{length, getD}
 use lib.Pow.{areBytes}
 use Rattle.codes.specs.declared.Code.{Code}
-use Rattle.codes.specs.declared.Code.the-variants.{Riff, Wave, Format, Data, Fact, Cue, Playlist, Listing, WaveList}
+use Rattle.codes.specs.declared.Code.the-variants.{Riff, Wave, Format, Data, Fact, Cue, Playlist, Listing, WaveList, Titles, Label, Note}
 use Rattle.codes.specs.Codes.{codeBytes}
 
 tested : (c : Code) → T (eqb (length (codeBytes c)) 4) × T (areBytes (codeBytes c)) × T (leb 1 (getD (codeBytes c) 3 0))
@@ -20,6 +20,9 @@ tested Cue = (tt, tt, tt)
 tested Playlist = (tt, tt, tt)
 tested Listing = (tt, tt, tt)
 tested WaveList = (tt, tt, tt)
+tested Titles = (tt, tt, tt)
+tested Label = (tt, tt, tt)
+tested Note = (tt, tt, tt)
 
 module _ (c : Code) where
   pub length-code : length (codeBytes c) ≡ 4

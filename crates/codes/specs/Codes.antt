@@ -7,7 +7,7 @@ use mathlib.Core.List.{List, [], _∷_}
 use lib.ListN.{take, drop}
 use Rattle.little.specs.Same.{sameBytes}
 use Rattle.codes.specs.declared.Code.{Code}
-use Rattle.codes.specs.declared.Code.the-variants.{Riff, Wave, Format, Data, Fact, Cue, Playlist, Listing, WaveList}
+use Rattle.codes.specs.declared.Code.the-variants.{Riff, Wave, Format, Data, Fact, Cue, Playlist, Listing, WaveList, Titles, Label, Note}
 
 -- letters as they stand in a file, a byte for each
 abbrev pub spelled : String → List ℕ
@@ -25,6 +25,9 @@ codeBytes Cue = spelled "cue "
 codeBytes Playlist = spelled "plst"
 codeBytes Listing = spelled "LIST"
 codeBytes WaveList = spelled "wavl"
+codeBytes Titles = spelled "adtl"
+codeBytes Label = spelled "labl"
+codeBytes Note = spelled "note"
 
 -- a code stands at a place: the four bytes there are its letters; past the end there are fewer
 unfoldable pub isAt : List ℕ → ℕ → Code → Bool

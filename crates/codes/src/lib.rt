@@ -18,6 +18,9 @@ pub enum Code {
     Playlist,
     Listing,
     WaveList,
+    Titles,
+    Label,
+    Note,
 }
 
 // The four letters of a code, as the papers print them.
@@ -34,6 +37,9 @@ fn letters(code: Code) -> [u8; 4]
         Code::Playlist => *b"plst",
         Code::Listing => *b"LIST",
         Code::WaveList => *b"wavl",
+        Code::Titles => *b"adtl",
+        Code::Label => *b"labl",
+        Code::Note => *b"note",
     }
 }
 

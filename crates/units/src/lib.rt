@@ -1,8 +1,8 @@
-// The three units, the twenty reasons to refuse, and the verdict on an input.
+// The four units, the twenty reasons to refuse, and the verdict on an input.
 //
-// A count of frames, a place in bytes and the number of a donated song are three types, so that
-// none is taken for another. A refusal has the number of document 01's table, and `number` is the
-// one place that says which.
+// A count of frames, a place in bytes, the number of a donated song and a place among the texts of
+// titles are four types, so that none is taken for another. A refusal has the number of document 01's
+// table, and `number` is the one place that says which.
 ghost use mathlib.Core.Path.{_≡_};
 ghost use Rattle.units.specs.Refusals.{numberOf};
 
@@ -14,6 +14,9 @@ pub struct BytePlace(pub usize);
 
 // The number under which a song was donated; cues and playlist entries are named by it.
 pub struct Donation(pub u32);
+
+// A place among the texts of titles, or a length of one, counted in bytes.
+pub struct TextPlace(pub u32);
 
 // The limit: a file has at most so many bytes.
 pub const LIMIT: usize = 1073741824;

@@ -10,7 +10,9 @@ unfolding codeBytes
 letters-spec =
     tie.close
     (tie.spec (λ c. search needs) (λ c. search needs) (λ c. search needs) (λ c. search needs) (λ c. search needs)
-    (λ c. search needs) (λ c. search needs) (λ c. search needs) (λ c. search needs)
+    (λ c. search needs) (λ c. search needs) (λ c. search needs) (λ c. search needs) (λ c. search needs)
+    (λ c. search needs) (λ c. search needs)
+    (λ c. search (needs, told-letters)) (λ c. search (needs, told-letters)) (λ c. search (needs, told-letters))
     (λ c. search (needs, told-letters)) (λ c. search (needs, told-letters)) (λ c. search (needs, told-letters))
     (λ c. search (needs, told-letters)) (λ c. search (needs, told-letters)) (λ c. search (needs, told-letters))
     (λ c. search (needs, told-letters)) (λ c. search (needs, told-letters)) (λ c. search (needs, told-letters)))
