@@ -10,7 +10,7 @@ use Rattle.units.specs.declared.BytePlace.{BytePlace}
 use Rattle.units.specs.declared.Verdict.{Verdict}
 use Rattle.units.specs.declared.Verdict.the-variants as verdict
 use Rattle.riff.specs.declared.Kind.{Kind}
-use Rattle.riff.specs.declared.Kind.the-variants.{Format, Sound, Fact, Cues, Plays, Listing, Other}
+use Rattle.riff.specs.declared.Kind.the-variants.{Format, Sound, Fact, Cues, Plays, Titles, Listing, Other}
 use Rattle.riff.specs.declared.Place.{Place}
 use Rattle.riff.specs.declared.Step.{Step}
 use Rattle.riff.specs.declared.Step.the-variants.{Chunk, Refused}
@@ -21,6 +21,7 @@ use Rattle.riff.specs.declared.Walked.{Walked}
 use Rattle.riff.specs.declared.Walked.the-variants.{Whole, Stopped}
 use Rattle.riff.specs.Chunks.{headVerdict, keep, chunkAt}
 use Rattle.riff.specs.Walk.{nothingYet, stepThen, stepsFrom, stepsOf, gather, walkOf, afterHead, directoryOf, bySpot, startOf}
+use Rattle.riff.proofs.Placing.{by-titles}
 use Rattle.riff.proofs.Walking.{met}
 use Rattle.reader.specs.Content.{reading, spotBy, soundSpot, soundStart}
 
@@ -39,6 +40,7 @@ module _ (s : List ℕ) where
   kept d p Fact h g = g
   kept d p Cues h g = g
   kept d p Plays h g = g
+  kept d p Titles h g = by-titles (λ c. Inside (c .sound)) d p (λ t. g) (λ t. g)
   kept d p Listing h g = g
   kept d p Other h g = g
 

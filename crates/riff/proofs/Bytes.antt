@@ -37,6 +37,6 @@ given-bytes c p ps t u = by (p .there)
     by false = u
 
 pub laid-bytes : (p : Parts) → T (areBytes (p .format)) → T (areBytes (p .fact .bytes)) → T (areBytes (p .cues .bytes))
-    → T (areBytes (p .plays .bytes)) → T (areBytes (p .sound)) → T (areBytes (fileBytes (piecesOf p)))
+    → T (areBytes (p .plays .bytes)) → T (areBytes (p .titles .bytes)) → T (areBytes (p .sound)) → T (areBytes (fileBytes (piecesOf p)))
 unfolding fileBytes riffBytes piecesOf bodyBytes
-laid-bytes p format fact cues plays sound = search (both-bytes, head-bytes, code-bytes, body-bytes, given-bytes, tt) depth 8
+laid-bytes p format fact cues plays titles sound = search (both-bytes, head-bytes, code-bytes, body-bytes, given-bytes, tt) depth 10

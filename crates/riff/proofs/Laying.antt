@@ -12,7 +12,7 @@ use Rattle.little.proofs.Reading.{length-bytes}
 use Rattle.codes.specs.Codes.{codeBytes}
 use Rattle.codes.proofs.Bytes.{length-code}
 use Rattle.codes.specs.declared.Code.{Code}
-use Rattle.codes.specs.declared.Code.the-variants.{Riff, Wave, Format, Data, Fact, Cue, Playlist}
+use Rattle.codes.specs.declared.Code.the-variants.{Riff, Wave, Format, Data, Fact, Cue, Playlist, Listing}
 use Rattle.riff.specs.Laying.{Piece, piece, headBytes, padBytes, pieceBytes, extent, bodyBytes, riffBytes, fileBytes, Part, Parts, given, extentIf, piecesOf}
 
 pub length-head : (c : Code) (n : ℕ) → length (headBytes c n) ≡ 8
@@ -55,11 +55,13 @@ length-given c p ps = by (p .there)
 
 pub length-laid : (p : Parts)
     → length (fileBytes (piecesOf p))
-    ≡ 12 + (extent (length (p .format)) + (extentIf (p .fact) + (extentIf (p .cues) + (extentIf (p .plays) + extent (length (p .sound))))))
+    ≡ 12 + (extent (length (p .format)) + (extentIf (p .fact) + (extentIf (p .cues)
+    + (extentIf (p .plays) + (extentIf (p .titles) + extent (length (p .sound)))))))
 unfolding piecesOf bodyBytes
 length-laid p =
     let d : List Piece = piece Data (p .sound) ∷ [] in
-    let l : List Piece = given Playlist (p .plays) d in
+    let t : List Piece = given Listing (p .titles) d in
+    let l : List Piece = given Playlist (p .plays) t in
     let k : List Piece = given Cue (p .cues) l in
     let f : List Piece = given Fact (p .fact) k in
     length-file (piecesOf p)
@@ -68,7 +70,8 @@ length-laid p =
       length-body (piece Format (p .format)) f,
       length-given Fact (p .fact) k,
       length-given Cue (p .cues) l,
-      length-given Playlist (p .plays) d,
+      length-given Playlist (p .plays) t,
+      length-given Listing (p .titles) d,
       length-body (piece Data (p .sound)) [],
     )
 

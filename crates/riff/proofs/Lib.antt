@@ -4,6 +4,7 @@ pub mod Walking
 pub mod Padding
 pub mod Parting
 pub mod Laying
+pub mod Putting
 pub mod Found
 pub mod Laid
 pub mod Tiling

@@ -1,11 +1,11 @@
 -- The chunk at a place, case by case in the order of the code's tests. Assumes nothing.
-use mathlib.Core.Path.{_≡_, sym, ap, _∙_}
-use mathlib.Core.Bool.{Bool, true, false}
+use mathlib.Core.Path.{_≡_, refl, sym, ap, _∙_}
+use mathlib.Core.Bool.{Bool, true, false, cond}
 use mathlib.Core.List.{List}
 use Prim.Native.Nat.{ℕ, _+_, _-_, _≤_, _<_}
 use native.Mathlib.Omega.{arith}
 use lib.ListN.{length}
-use borrow.Author.Tests.{lt-ltb, le-ltb}
+use borrow.Author.Tests.{lt-ltb, le-ltb, lt-leb, le-leb}
 use Rattle.little.specs.Numbers.{numberAt}
 use Rattle.little.proofs.Tests.{tests}
 use Rattle.codes.specs.Codes.{isAt}
@@ -14,14 +14,15 @@ use Rattle.units.specs.declared.BytePlace.{BytePlace}
 use Rattle.units.specs.declared.Refusal.{Refusal}
 use Rattle.units.specs.declared.Refusal.the-variants.{ChunkPastTheEnd, SecondOfItsKind, DataBeforeFormat, WaveList}
 use Rattle.riff.specs.declared.Kind.{Kind}
-use Rattle.riff.specs.declared.Kind.the-variants.{Format, Sound, Fact, Cues, Plays, Listing, Other}
+use Rattle.riff.specs.declared.Kind.the-variants.{Format, Sound, Fact, Cues, Plays, Titles, Listing, Other}
 use Rattle.riff.specs.declared.Pad.{Pad}
 use Rattle.riff.specs.declared.Place.{Place}
 use Rattle.riff.specs.declared.Step.{Step}
 use Rattle.riff.specs.declared.Step.the-variants.{Chunk, Refused}
 use Rattle.riff.specs.declared.Spot.{Spot}
+use Rattle.riff.specs.declared.Spot.the-variants.{At}
 use Rattle.riff.specs.declared.Directory.{Directory}
-use Rattle.riff.specs.Chunks.{kindAt, endAt, padAfter, padSize, placeAt, spotOf, isThere, keep, early, startsAsWaves, waveList, checked, chunkAt}
+use Rattle.riff.specs.Chunks.{sizeAt, endAt, listKind, kindAt, padAfter, padSize, placeAt, spotOf, isThere, directory, keepTitles, keep, early, startsAsWaves, waveList, checked, chunkAt}
 use Rattle.riff.specs.Walk.{refusalOf}
 
 -- ---- the kind of a chunk: the first code that stands there
@@ -51,15 +52,32 @@ module _ (s : List ℕ) (at : ℕ) where
           kind-plays k t = simp (sym e ∙ m, sym f ∙ n, sym g ∙ o, sym h ∙ p, sym k ∙ t)
 
           module _ {j : Bool} (k : j ≡ isAt s at code.Playlist) (q : j ≡ false) where
-            pub kind-listing : {x : Bool} → x ≡ isAt s at code.Listing → x ≡ true → Listing ≡ kindAt s at
+            pub kind-listing : {x : Bool} {r : Kind} → x ≡ isAt s at code.Listing → x ≡ true → r ≡ listKind s at → r ≡ kindAt s at
             unfolding kindAt
-            kind-listing l t = simp (sym e ∙ m, sym f ∙ n, sym g ∙ o, sym h ∙ p, sym k ∙ q, sym l ∙ t)
+            kind-listing l t r = simp (sym e ∙ m, sym f ∙ n, sym g ∙ o, sym h ∙ p, sym k ∙ q, sym l ∙ t) r
 
             pub kind-other : {x : Bool} → x ≡ isAt s at code.Listing → x ≡ false → Other ≡ kindAt s at
             unfolding kindAt
             kind-other l t = simp (sym e ∙ m, sym f ∙ n, sym g ∙ o, sym h ∙ p, sym k ∙ q, sym l ∙ t)
 
 pub ruleset kinds = (kind-format, kind-sound, kind-fact, kind-cues, kind-plays, kind-listing, kind-other)
+
+-- of a list, by what its data start with
+module _ (s : List ℕ) (at : ℕ) {n : ℕ} (b : n ≡ sizeAt s at) where
+  pub list-short : n < 4 → Listing ≡ listKind s at
+  unfolding listKind
+  list-short h = simp (← b, lt-leb 4 n h)
+
+  module _ (h : 4 ≤ n) {x : Bool} (e : x ≡ isAt s (at + 8) code.Titles) where
+    pub list-titles : x ≡ true → Titles ≡ listKind s at
+    unfolding listKind
+    list-titles t = simp (← b, le-leb 4 n h, sym e ∙ t)
+
+    pub list-other : x ≡ false → Listing ≡ listKind s at
+    unfolding listKind
+    list-other t = simp (← b, le-leb 4 n h, sym e ∙ t)
+
+pub ruleset lists = (list-short, list-titles, list-other)
 
 -- ---- a chunk fits the file, or does not
 module _ (s : List ℕ) (at : BytePlace) where
@@ -91,6 +109,33 @@ pub ruleset placing = (place-none, place-short, place-cut, place-whole)
 -- ---- the directory by the kind of a chunk
 pub kept-by : (d : Directory) (p : Place) {k : Kind} {e : Directory} → p .kind ≡ k → e ≡ keep d p k → e ≡ keep d p (p .kind)
 kept-by d p {k} {e} q r = r ∙ ap (keep d p) (sym q)
+
+-- with a list of titles, by whether one was met before
+abbrev titlesAgain : Directory → Directory
+titlesAgain d = directory (d .format) (d .sound) (d .fact) (d .cues) (d .plays) (d .titles) true
+
+abbrev titlesFirst : Directory → Place → Directory
+titlesFirst d p = directory (d .format) (d .sound) (d .fact) (d .cues) (d .plays) (At p) (d .second)
+
+module _ (d : Directory) (p : Place) {x : Bool} {r : Directory} (e : x ≡ isThere (d .titles)) where
+  pub titles-again : x ≡ true → r ≡ titlesAgain d → r ≡ keepTitles d p
+  unfolding keepTitles
+  titles-again t f = simp (sym e ∙ t) f
+
+  pub titles-first : x ≡ false → r ≡ titlesFirst d p → r ≡ keepTitles d p
+  unfolding keepTitles
+  titles-first t f = simp (sym e ∙ t) f
+
+pub ruleset titles = (titles-again, titles-first)
+
+pub by-titles : (P : Directory → Type 0) (d : Directory) (p : Place) → (isThere (d .titles) ≡ true → P (titlesAgain d))
+    → (isThere (d .titles) ≡ false → P (titlesFirst d p)) → P (keepTitles d p)
+unfolding keepTitles
+by-titles P d p again first = by (isThere (d .titles)) refl
+  where
+    by : (b : Bool) → isThere (d .titles) ≡ b → P (cond b (titlesAgain d) (titlesFirst d p))
+    by true t = again t
+    by false t = first t
 
 pub refused-by : (step : Step) {r : Refusal} → step ≡ Refused r → r ≡ refusalOf step
 refused-by step e = sym (ap refusalOf e)

@@ -13,7 +13,7 @@ use Rattle.units.specs.declared.BytePlace.{BytePlace}
 use Rattle.units.specs.declared.Verdict.{Verdict}
 use Rattle.units.specs.declared.Verdict.the-variants as verdict
 use Rattle.riff.specs.declared.Kind.{Kind}
-use Rattle.riff.specs.declared.Kind.the-variants.{Format, Sound, Fact, Cues, Plays, Listing, Other}
+use Rattle.riff.specs.declared.Kind.the-variants.{Format, Sound, Fact, Cues, Plays, Titles, Listing, Other}
 use Rattle.riff.specs.declared.Place.{Place}
 use Rattle.riff.specs.declared.Step.{Step}
 use Rattle.riff.specs.declared.Step.the-variants.{Chunk, Refused}
@@ -27,13 +27,15 @@ use Rattle.riff.specs.Walk.{nothingYet, stepThen, stepsFrom, stepsOf, ga
 use Rattle.riff.specs.Laying.{extent}
 use Rattle.riff.specs.Demands.{spotExtent}
 use Rattle.riff.proofs.Padding.{next-place}
+use Rattle.riff.proofs.Placing.{by-titles}
 use Rattle.riff.proofs.Walking.{Met, met, whole-long}
 
 module _ (s : List ℕ) where
   -- the bytes of all chunks met so far
   abbrev taken : Directory → ℕ
   taken d =
-      spotExtent s (d .format) + (spotExtent s (d .fact) + (spotExtent s (d .cues) + (spotExtent s (d .plays) + spotExtent s (d .sound))))
+      spotExtent s (d .format) + (spotExtent s (d .fact) + (spotExtent s (d .cues)
+      + (spotExtent s (d .plays) + (spotExtent s (d .titles) + spotExtent s (d .sound)))))
 
   -- ---- one chunk more
   none : (x : Spot) → isThere x ≡ false → spotExtent s x ≡ 0
@@ -46,6 +48,8 @@ module _ (s : List ℕ) where
   taken-more d p Fact e = omega (arith, none (d .fact) e)
   taken-more d p Cues e = omega (arith, none (d .cues) e)
   taken-more d p Plays e = omega (arith, none (d .plays) e)
+  taken-more d p Titles e =
+      by-titles (λ c. taken c ≤ taken d + spotExtent s (At p)) d p (λ t. omega arith) (λ t. omega (arith, none (d .titles) t))
   taken-more d p Listing e = omega arith
   taken-more d p Other e = omega arith
 
@@ -96,15 +100,26 @@ unopened : (v : Verdict) (w : Walked) (d : Directory) → afterHead v w ≡ Whol
 unopened verdict.Accepted w d e = e
 unopened (verdict.Refused r) w d e = let z : _≡_ {A = ℕ} 0 1 = cc in absurd (omega arith)
 
+-- a chunk with its pad is of even length, and so are all of them
 even-extent : (s : List ℕ) (spot : Spot) → spotExtent s spot % 2 ≡ 0
 even-extent s (At p) = omega arith
 even-extent s Missing = refl
 
--- each is of even length with its pad, so that an even file has room for them as it is
+even-sum : (m n : ℕ) → m % 2 ≡ 0 → n % 2 ≡ 0 → (m + n) % 2 ≡ 0
+even-sum m n g h = omega arith
+
+even-taken : (s : List ℕ) (d : Directory) → taken s d % 2 ≡ 0
+even-taken s d = search (even-sum, even-extent) depth 8
+
+rounded : (n long : ℕ) → n % 2 ≡ 0 → 12 + n ≤ long + 1 → 12 + n ≤ long + long % 2
+rounded n long e h = omega arith
+
+-- an even file has room for them as it is
 pub room-for-all : (s : List ℕ) (d : Directory) → directoryOf s ≡ Whole d
-    → 12 + (spotExtent s (d .format) + (spotExtent s (d .fact) + (spotExtent s (d .cues) + (spotExtent s (d .plays) + spotExtent s (d .sound)))))
+    → 12 + (spotExtent s (d .format) + (spotExtent s (d .fact) + (spotExtent s (d .cues)
+    + (spotExtent s (d .plays) + (spotExtent s (d .titles) + spotExtent s (d .sound))))))
     ≤ length s + length s % 2
 unfolding directoryOf walkOf stepsOf
 room-for-all s d e =
-    let r = leads s (length s) d (record { 0 = 12 }) nothingYet (unopened (headVerdict s) (walkOf s) d e) (omega arith) (whole-long s refl e) in
-    omega (arith, even-extent s (d .format), even-extent s (d .fact), even-extent s (d .cues), even-extent s (d .plays), even-extent s (d .sound))
+    rounded (taken s d) (length s) (even-taken s d)
+    (leads s (length s) d (record { 0 = 12 }) nothingYet (unopened (headVerdict s) (walkOf s) d e) (omega arith) (whole-long s refl e))

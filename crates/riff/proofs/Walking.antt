@@ -14,7 +14,7 @@ use Rattle.units.specs.declared.Refusal.the-variants.{LengthOutOfRange, ChunkPa
 use Rattle.units.specs.declared.Verdict.{Verdict}
 use Rattle.units.specs.declared.Verdict.the-variants as verdict
 use Rattle.riff.specs.declared.Kind.{Kind}
-use Rattle.riff.specs.declared.Kind.the-variants.{Format, Sound, Fact, Cues, Plays, Listing, Other}
+use Rattle.riff.specs.declared.Kind.the-variants.{Format, Sound, Fact, Cues, Plays, Titles, Listing, Other}
 use Rattle.riff.specs.declared.Place.{Place}
 use Rattle.riff.specs.declared.Step.{Step}
 use Rattle.riff.specs.declared.Step.the-variants.{Chunk, Refused}
@@ -122,6 +122,7 @@ stays d p Sound = refl
 stays d p Fact = refl
 stays d p Cues = refl
 stays d p Plays = refl
+stays d p Titles = refl
 stays d p Listing = refl
 stays d p Other = refl
 

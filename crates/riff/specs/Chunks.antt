@@ -13,7 +13,7 @@ use Rattle.units.specs.declared.BytePlace.{BytePlace}
 use Rattle.units.specs.declared.Refusal.the-variants.{LengthOutOfRange, NotWave, RiffSizeWrong, ChunkPastTheEnd, SecondOfItsKind, DataBeforeFormat, WaveList}
 use Rattle.units.specs.declared.Verdict.{Verdict}
 use Rattle.riff.specs.declared.Kind.{Kind}
-use Rattle.riff.specs.declared.Kind.the-variants.{Format, Sound, Fact, Cues, Plays, Listing, Other}
+use Rattle.riff.specs.declared.Kind.the-variants.{Format, Sound, Fact, Cues, Plays, Titles, Listing, Other}
 use Rattle.riff.specs.declared.Pad.{Pad}
 use Rattle.riff.specs.declared.Pad.the-variants.{NotNeeded, There, Absent}
 use Rattle.riff.specs.declared.Place.{Place}
@@ -50,6 +50,17 @@ headVerdict s = decided (headChecks s)
 
 -- ---- a chunk: a four-byte code, a four-byte size and that many bytes, plus one pad byte if the size is odd
 
+-- the size of the data, and where they end
+abbrev pub sizeAt : List ℕ → ℕ → ℕ
+sizeAt s at = numberAt 4 s (at + 4)
+
+abbrev pub endAt : List ℕ → ℕ → ℕ
+endAt s at = at + 8 + sizeAt s at
+
+-- of a `LIST`: it is one of titles where its data start with `adtl`
+unfoldable pub listKind : List ℕ → ℕ → Kind
+listKind s at = cond (leb 4 (sizeAt s at) && isAt s (at + 8) code.Titles) Titles Listing
+
 unfoldable pub kindAt : List ℕ → ℕ → Kind
 kindAt s at =
     cond (isAt s at code.Format) Format
@@ -57,15 +68,8 @@ kindAt s at =
     (cond (isAt s at code.Fact) Fact
     (cond (isAt s at code.Cue) Cues
     (cond (isAt s at code.Playlist) Plays
-    (cond (isAt s at code.Listing) Listing
+    (cond (isAt s at code.Listing) (listKind s at)
     Other)))))
-
--- the size of the data, and where they end
-abbrev pub sizeAt : List ℕ → ℕ → ℕ
-sizeAt s at = numberAt 4 s (at + 4)
-
-abbrev pub endAt : List ℕ → ℕ → ℕ
-endAt s at = at + 8 + sizeAt s at
 
 -- the pad after data of a size that end at a place, in a file so long: "it may be absent only where the chunk's data ends at the
 -- file's end"
@@ -109,18 +113,30 @@ abbrev pub isThere : Spot → Bool
 isThere (At p) = true
 isThere Missing = false
 
--- where a chunk of a kind was met; of the last two, any number may be
+-- whether a chunk was met whose pad is absent
+abbrev pub isAbsent : Pad → Bool
+isAbsent NotNeeded = false
+isAbsent There = false
+isAbsent Absent = true
+
+abbrev pub padLost : Spot → Bool
+padLost (At p) = isAbsent (p .pad)
+padLost Missing = false
+
+-- where a chunk of a kind was met; of the last three, the walk takes any number
 abbrev pub spotOf : Directory → Kind → Spot
 spotOf d Format = d .format
 spotOf d Sound = d .sound
 spotOf d Fact = d .fact
 spotOf d Cues = d .cues
 spotOf d Plays = d .plays
+spotOf d Titles = Missing
 spotOf d Listing = Missing
 spotOf d Other = Missing
 
-abbrev pub directory : Spot → Spot → Spot → Spot → Spot → Directory
-directory format sound fact cues plays = record { format = format; sound = sound; fact = fact; cues = cues; plays = plays }
+abbrev pub directory : Spot → Spot → Spot → Spot → Spot → Spot → Bool → Directory
+directory format sound fact cues plays titles second =
+    record { format = format; sound = sound; fact = fact; cues = cues; plays = plays; titles = titles; second = second }
 
 -- whether there is a spot for chunks of a kind
 abbrev pub isKept : Kind → Bool
@@ -129,16 +145,25 @@ isKept Sound = true
 isKept Fact = true
 isKept Cues = true
 isKept Plays = true
+isKept Titles = true
 isKept Listing = false
 isKept Other = false
 
+-- the directory with a list of titles more: its place where it is the first, else only that another came
+unfoldable pub keepTitles : Directory → Place → Directory
+keepTitles d p =
+    cond (isThere (d .titles))
+    (directory (d .format) (d .sound) (d .fact) (d .cues) (d .plays) (d .titles) true)
+    (directory (d .format) (d .sound) (d .fact) (d .cues) (d .plays) (At p) (d .second))
+
 -- the directory with one chunk more
 abbrev pub keep : Directory → Place → Kind → Directory
-keep d p Format = directory (At p) (d .sound) (d .fact) (d .cues) (d .plays)
-keep d p Sound = directory (d .format) (At p) (d .fact) (d .cues) (d .plays)
-keep d p Fact = directory (d .format) (d .sound) (At p) (d .cues) (d .plays)
-keep d p Cues = directory (d .format) (d .sound) (d .fact) (At p) (d .plays)
-keep d p Plays = directory (d .format) (d .sound) (d .fact) (d .cues) (At p)
+keep d p Format = directory (At p) (d .sound) (d .fact) (d .cues) (d .plays) (d .titles) (d .second)
+keep d p Sound = directory (d .format) (At p) (d .fact) (d .cues) (d .plays) (d .titles) (d .second)
+keep d p Fact = directory (d .format) (d .sound) (At p) (d .cues) (d .plays) (d .titles) (d .second)
+keep d p Cues = directory (d .format) (d .sound) (d .fact) (At p) (d .plays) (d .titles) (d .second)
+keep d p Plays = directory (d .format) (d .sound) (d .fact) (d .cues) (At p) (d .titles) (d .second)
+keep d p Titles = keepTitles d p
 keep d p Listing = d
 keep d p Other = d
 
@@ -149,6 +174,7 @@ early d Sound = not (isThere (d .format))
 early d Fact = false
 early d Cues = false
 early d Plays = false
+early d Titles = false
 early d Listing = false
 early d Other = false
 
@@ -162,6 +188,7 @@ waveList s p Sound = false
 waveList s p Fact = false
 waveList s p Cues = false
 waveList s p Plays = false
+waveList s p Titles = false
 waveList s p Listing = startsAsWaves s p
 waveList s p Other = false
 

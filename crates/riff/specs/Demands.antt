@@ -2,7 +2,7 @@
 -- that the chunks it is read by take. Assumes nothing.
 use Prim.Native.Nat.{ℕ, zero, suc, _+_, _%_, _<_}
 use mathlib.Core.Path.{_≡_}
-use mathlib.Core.Bool.{true, cond}
+use mathlib.Core.Bool.{true, false, cond}
 use mathlib.Core.List.{List, []}
 use lib.Dec.{ltb}
 use lib.ListN.{length}
@@ -77,6 +77,8 @@ pub record Reads (s : List ℕ) (p : Parts) : Type 0 where
   pub fact : (absent : List ℕ) → partOf s (places .fact) absent ≡ cond (p .fact .there) (p .fact .bytes) absent
   pub cues : (absent : List ℕ) → partOf s (places .cues) absent ≡ cond (p .cues .there) (p .cues .bytes) absent
   pub plays : (absent : List ℕ) → partOf s (places .plays) absent ≡ cond (p .plays .there) (p .plays .bytes) absent
+  pub titles : (absent : List ℕ) → partOf s (places .titles) absent ≡ cond (p .titles .there) (p .titles .bytes) absent
+  pub alone : places .second ≡ false
 
 -- the bytes of a chunk that was met, with its pad, also where that is absent
 abbrev pub spotExtent : List ℕ → Spot → ℕ

@@ -6,7 +6,7 @@ use lib.ListN.{length, replicate}
 use Rattle.little.specs.Numbers.{bytesOf}
 use Rattle.codes.specs.Codes.{codeBytes}
 use Rattle.codes.specs.declared.Code.{Code}
-use Rattle.codes.specs.declared.Code.the-variants.{Riff, Wave, Format, Data, Fact, Cue, Playlist}
+use Rattle.codes.specs.declared.Code.the-variants.{Riff, Wave, Format, Data, Fact, Cue, Playlist, Listing}
 
 -- ---- one chunk
 
@@ -51,12 +51,13 @@ pub record Part : Type 0 where
   pub there : Bool
   pub bytes : List ℕ
 
--- of a WAVE file three chunks may be left out
+-- of a WAVE file four chunks may be left out
 pub record Parts : Type 0 where
   pub format : List ℕ
   pub fact : Part
   pub cues : Part
   pub plays : Part
+  pub titles : Part
   pub sound : List ℕ
 
 abbrev pub piece : Code → List ℕ → Piece
@@ -77,4 +78,4 @@ extentIf p = cond (p .there) (extent (length (p .bytes))) 0
 unfoldable pub piecesOf : Parts → List Piece
 piecesOf p =
     piece Format (p .format)
-    ∷ given Fact (p .fact) (given Cue (p .cues) (given Playlist (p .plays) (piece Data (p .sound) ∷ [])))
+    ∷ given Fact (p .fact) (given Cue (p .cues) (given Playlist (p .plays) (given Listing (p .titles) (piece Data (p .sound) ∷ []))))

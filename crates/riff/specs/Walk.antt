@@ -1,6 +1,6 @@
 -- The steps of a file, and the directory that they make. Assumes nothing.
 use Prim.Native.Nat.{ℕ, zero, suc}
-use mathlib.Core.Bool.{cond}
+use mathlib.Core.Bool.{false, cond}
 use mathlib.Core.List.{List, [], _∷_}
 use lib.Dec.{ltb}
 use lib.ListN.{length, take, drop}
@@ -20,7 +20,7 @@ use Rattle.riff.specs.declared.Walked.the-variants.{Whole, Stopped}
 use Rattle.riff.specs.Chunks.{headVerdict, chunkAt, directory, keep}
 
 abbrev pub nothingYet : Directory
-nothingYet = directory Missing Missing Missing Missing Missing
+nothingYet = directory Missing Missing Missing Missing Missing Missing false
 
 -- a step, and the steps after it; a refusal is the last
 abbrev pub stepThen : (BytePlace → Directory → List Step) → Directory → Step → List Step

@@ -1,5 +1,6 @@
 // The chunks of a RIFF file: its header, the walk over the chunks from byte 12, and the directory of
-// those that a WAVE file is read by; and the heads of a file and of a chunk, as they are written.
+// those that a WAVE file is read by; and the heads of a file and of a chunk, and its pad, as they are
+// written.
 //
 // A step of the walk is a chunk's place or the refusal that ends the walk.
 use codes::Code;
@@ -10,9 +11,9 @@ ghost use mathlib.Core.Path.{_≡_};
 ghost use Prim.Native.Nat.{_+_, _≤_, min};
 ghost use lib.ListN.{length, take, drop};
 ghost use Rattle.little.specs.Writing.{Put};
-ghost use Rattle.riff.specs.Chunks.{headVerdict, kindAt, padAfter, padSize, placeAt, spotOf, isThere, early, startsAsWaves, waveList, chunkAt, directory, isKept, keep};
+ghost use Rattle.riff.specs.Chunks.{headVerdict, listKind, kindAt, padAfter, padSize, placeAt, isThere, isAbsent, padLost, spotOf, early, startsAsWaves, waveList, chunkAt, directory, isKept, keepTitles, keep};
 ghost use Rattle.riff.specs.Walk.{refusalOf, walkOf, directoryOf, partOf, bySpot, startOf};
-ghost use Rattle.riff.specs.Laying.{headBytes, riffBytes};
+ghost use Rattle.riff.specs.Laying.{headBytes, padBytes, riffBytes};
 
 // What a chunk is to the walk.
 pub enum Kind {
@@ -21,6 +22,7 @@ pub enum Kind {
     Fact,
     Cues,
     Plays,
+    Titles,
     Listing,
     Other,
 }
@@ -54,13 +56,15 @@ pub enum Spot {
     Missing,
 }
 
-// Where the chunks stand that a file is read by.
+// Where the chunks stand that a file is read by; of the lists of titles the first, and whether another came.
 pub struct Directory {
     pub format: Spot,
     pub sound: Spot,
     pub fact: Spot,
     pub cues: Spot,
     pub plays: Spot,
+    pub titles: Spot,
+    pub second: bool,
 }
 
 // What a walk ends with.
@@ -94,8 +98,23 @@ fn head(file: &[u8]) -> Verdict
     Verdict::Accepted
 }
 
+// What the `LIST` at a place is: one of titles where its data start with `adtl`.
+fn list_kind(file: &[u8], at: usize) -> Kind
+    requires { ⌜ at + 8 ≤ length (now file) ⌝ }
+    ensures answer { λ r. ⌜ r ≡ listKind (now (file .entry)) at ⌝ }
+{
+    if little::u32_at(file, at + 4) < 4 {
+        return Kind::Listing;
+    }
+    if codes::is_at(file, at + 8, Code::Titles) {
+        return Kind::Titles;
+    }
+    Kind::Listing
+}
+
 // What the chunk at a place is, by its code.
 fn kind_at(file: &[u8], at: usize) -> Kind
+    requires { ⌜ at + 8 ≤ length (now file) ⌝ }
     ensures answer { λ r. ⌜ r ≡ kindAt (now (file .entry)) at ⌝ }
 {
     if codes::is_at(file, at, Code::Format) {
@@ -114,7 +133,7 @@ fn kind_at(file: &[u8], at: usize) -> Kind
         return Kind::Plays;
     }
     if codes::is_at(file, at, Code::Listing) {
-        return Kind::Listing;
+        return list_kind(file, at);
     }
     Kind::Other
 }
@@ -145,7 +164,7 @@ fn pad_size(pad: Pad) -> usize
 }
 
 // The chunk that starts at a place, where it fits the file.
-fn place_at(file: &[u8], at: BytePlace) -> Step
+pub fn place_at(file: &[u8], at: BytePlace) -> Step
     ensures answer { λ r. ⌜ r ≡ placeAt (now (file .entry)) at ⌝ }
 {
     let a = at.0;
@@ -181,6 +200,7 @@ fn spot_of(seen: Directory, kind: Kind) -> Spot
         Kind::Fact => seen.fact,
         Kind::Cues => seen.cues,
         Kind::Plays => seen.plays,
+        Kind::Titles => Spot::Missing,
         Kind::Listing => Spot::Missing,
         Kind::Other => Spot::Missing,
     }
@@ -196,6 +216,28 @@ pub fn there(spot: Spot) -> bool
     }
 }
 
+// Whether a pad is absent.
+fn absent(pad: Pad) -> bool
+    ensures answer { λ r. ⌜ r ≡ isAbsent pad ⌝ }
+{
+    match pad {
+        Pad::NotNeeded => false,
+        Pad::There => false,
+        Pad::Absent => true,
+    }
+}
+
+// Whether a chunk was met whose pad is absent.
+pub fn pad_lost(spot: Spot) -> bool
+    ensures answer { λ r. ⌜ r ≡ padLost spot ⌝ }
+{
+    let Spot::At(place) = spot else {
+        return false;
+    };
+    let pad = place.pad;
+    absent(pad)
+}
+
 // Whether a chunk is the sound, before any format.
 fn too_early(seen: Directory, kind: Kind) -> bool
     ensures answer { λ r. ⌜ r ≡ early seen kind ⌝ }
@@ -207,6 +249,7 @@ fn too_early(seen: Directory, kind: Kind) -> bool
         Kind::Fact => false,
         Kind::Cues => false,
         Kind::Plays => false,
+        Kind::Titles => false,
         Kind::Listing => false,
         Kind::Other => false,
     }
@@ -233,6 +276,7 @@ fn wave_list(file: &[u8], place: Place) -> bool
         Kind::Fact => false,
         Kind::Cues => false,
         Kind::Plays => false,
+        Kind::Titles => false,
         Kind::Listing => starts_as_waves(file, place),
         Kind::Other => false,
     }
@@ -260,9 +304,17 @@ pub fn chunk_at(file: &[u8], at: BytePlace, seen: Directory) -> Step
     Step::Chunk(place)
 }
 
-// The directory of five spots.
-fn listed(format: Spot, sound: Spot, fact: Spot, cues: Spot, plays: Spot) -> Directory
-    ensures answer { λ r. ⌜ r ≡ directory format sound fact cues plays ⌝ }
+// The directory of six spots, and whether a second list of titles came.
+fn listed(
+    format: Spot,
+    sound: Spot,
+    fact: Spot,
+    cues: Spot,
+    plays: Spot,
+    titles: Spot,
+    second: bool,
+) -> Directory
+    ensures answer { λ r. ⌜ r ≡ directory format sound fact cues plays titles second ⌝ }
 {
     Directory {
         format: format,
@@ -270,6 +322,8 @@ fn listed(format: Spot, sound: Spot, fact: Spot, cues: Spot, plays: Spot) -> Dir
         fact: fact,
         cues: cues,
         plays: plays,
+        titles: titles,
+        second: second,
     }
 }
 
@@ -283,9 +337,27 @@ fn is_kept(kind: Kind) -> bool
         Kind::Fact => true,
         Kind::Cues => true,
         Kind::Plays => true,
+        Kind::Titles => true,
         Kind::Listing => false,
         Kind::Other => false,
     }
+}
+
+// The directory with a list of titles more: its place where it is the first, else only that another came.
+fn with_titles(seen: Directory, place: Place) -> Directory
+    ensures answer { λ r. ⌜ r ≡ keepTitles seen place ⌝ }
+{
+    let format = seen.format;
+    let sound = seen.sound;
+    let fact = seen.fact;
+    let cues = seen.cues;
+    let plays = seen.plays;
+    let titles = seen.titles;
+    let second = seen.second;
+    if there(titles) {
+        return listed(format, sound, fact, cues, plays, titles, true);
+    }
+    listed(format, sound, fact, cues, plays, Spot::At(place), second)
 }
 
 // The directory with one chunk more.
@@ -298,13 +370,16 @@ fn kept(seen: Directory, place: Place) -> Directory
     let fact = seen.fact;
     let cues = seen.cues;
     let plays = seen.plays;
+    let titles = seen.titles;
+    let second = seen.second;
     let here = Spot::At(place);
     match kind {
-        Kind::Format => listed(here, sound, fact, cues, plays),
-        Kind::Sound => listed(format, here, fact, cues, plays),
-        Kind::Fact => listed(format, sound, here, cues, plays),
-        Kind::Cues => listed(format, sound, fact, here, plays),
-        Kind::Plays => listed(format, sound, fact, cues, here),
+        Kind::Format => listed(here, sound, fact, cues, plays, titles, second),
+        Kind::Sound => listed(format, here, fact, cues, plays, titles, second),
+        Kind::Fact => listed(format, sound, here, cues, plays, titles, second),
+        Kind::Cues => listed(format, sound, fact, here, plays, titles, second),
+        Kind::Plays => listed(format, sound, fact, cues, here, titles, second),
+        Kind::Titles => with_titles(seen, place),
         Kind::Listing => seen,
         Kind::Other => seen,
     }
@@ -327,7 +402,7 @@ fn walk(file: &[u8]) -> Walked
 {
     let mut at: usize = 12;
     let none = Spot::Missing;
-    let mut seen = listed(none, none, none, none, none);
+    let mut seen = listed(none, none, none, none, none, none, false);
     while at < file.len() {
         let step = chunk_at(file, BytePlace(at), seen);
         let Step::Chunk(place) = step else {
@@ -374,6 +449,17 @@ pub fn put_head(out: &mut [u8], at: usize, code: Code, size: u32)
 {
     codes::put(out, at, code);
     little::put_u32(out, at + 4, size);
+}
+
+// Puts the pad of a chunk of some size: a zero where the size is odd.
+pub fn put_pad(out: &mut [u8], at: usize, size: usize)
+    requires { ⌜ at + length (padBytes size) ≤ length (now out) ⌝ }
+    ensures buffer { λ _. ⌜ Put (now (out .entry)) at (padBytes size) (now (out .exit)) ⌝ }
+{
+    if size % 2 == 0 {
+        return;
+    }
+    out[at] = 0;
 }
 
 // Puts the first twelve bytes of a file, whose size is that of all that follows the first eight.

@@ -2,7 +2,7 @@
 -- get the record's own verdict. Assumes nothing.
 use mathlib.Core.Path.{_≡_, refl, sym, ap, _∙_}
 use mathlib.Core.Bool.{Bool, true, false, cond}
-use mathlib.Core.List.{List, []}
+use mathlib.Core.List.{List, [], append-nil}
 use Prim.Native.Nat.{ℕ, _≤_}
 use native.Mathlib.Omega.{arith}
 use lib.Dec.{leb}
@@ -13,6 +13,8 @@ use Rattle.units.specs.declared.BytePlace.{BytePlace}
 use Rattle.units.specs.declared.Verdict.{Verdict}
 use Rattle.units.specs.declared.Verdict.the-variants.{Accepted, Refused}
 use Rattle.units.specs.Checks.{decided}
+use Rattle.codes.specs.Codes.{codeBytes}
+use Rattle.codes.specs.declared.Code.the-variants as code
 use Rattle.riff.specs.declared.Directory.{Directory}
 use Rattle.riff.specs.Demands.{Reads}
 use Rattle.riff.proofs.Laid.{laid-reads}
@@ -49,8 +51,8 @@ module _ (m : Record) (w : List ℕ) (h : RecordFits m) (k : FaultSaid m (sizeOf
   s = fileOf m w
 
   laid : Reads s (partsOf m w)
-  unfolding fileOf
-  laid = laid-reads (partsOf m w) l
+  unfolding fileOf partsOf
+  laid = laid-reads (partsOf m w) [] (sym (append-nil (codeBytes code.Titles))) l
 
   abbrev d : Directory
   d = laid .places

@@ -18,7 +18,7 @@ use Rattle.riff.proofs.Laying.{length-file}
 use Rattle.formats.specs.Format.{formatRule}
 use Rattle.tables.specs.declared.Playlist.{Playlist}
 use Rattle.rules.specs.declared.Record.{Record}
-use Rattle.writer.specs.File.{factChunk, cuesChunk, playsChunk, partsOf, fileOf, untilTables, tablesOf, settled, writing, writtenVerdict}
+use Rattle.writer.specs.File.{factChunk, cuesChunk, playsChunk, noTitles, partsOf, fileOf, untilTables, tablesOf, settled, writing, writtenVerdict}
 use Rattle.writer.specs.declared.Written.{Written}
 use Rattle.writer.specs.declared.Written.the-variants.{Bytes}
 use Rattle.writer.specs.declared.Written.the-variants as written
@@ -41,16 +41,17 @@ module _ (m : Record) (w : List ℕ) where
   tables = tablesOf (m .cues) (m .playlist)
 
   body-runs : bodyBytes (piecesOf (partsOf m w)) ≡ (formOf (m .format) ++ countOf (m .format) (m .frames)) ++ (tables ++ sound)
-  unfolding piecesOf partsOf bodyBytes
+  unfolding piecesOf partsOf given bodyBytes
   body-runs =
       let d : List Piece = piece code.Data w ∷ [] in
-      let l : List Piece = given code.Playlist (playsChunk (m .playlist)) d in
+      let t : List Piece = given code.Listing noTitles d in
+      let l : List Piece = given code.Playlist (playsChunk (m .playlist)) t in
       let c : List Piece = given code.Cue (cuesChunk (m .cues)) l in
       let x : List ℕ = partBytes code.Cue (cuesChunk (m .cues)) in
       let y : List ℕ = partBytes code.Playlist (playsChunk (m .playlist)) in
       let e : bodyBytes c ≡ tables ++ sound =
       body-given code.Cue (cuesChunk (m .cues)) l
-      ∙ ap (λ (s : List ℕ). x ++ s) (body-given code.Playlist (playsChunk (m .playlist)) d ∙ ap (λ (s : List ℕ). y ++ s) (append-nil sound))
+      ∙ ap (λ (s : List ℕ). x ++ s) (body-given code.Playlist (playsChunk (m .playlist)) t ∙ ap (λ (s : List ℕ). y ++ s) (append-nil sound))
       ∙ sym (append-assoc x y sound) in
       ap (λ (s : List ℕ). formOf (m .format) ++ s) (body-given code.Fact (factChunk (m .format) (m .frames)) c ∙ ap (λ (s : List ℕ). countOf (m .format) (m .frames) ++ s) e)
       ∙ sym (append-assoc (formOf (m .format)) (countOf (m .format) (m .frames)) (tables ++ sound))

@@ -1,6 +1,6 @@
 -- A record that was read is written in no more bytes than the file it was read from has with its last pad: chunk by chunk, as each
 -- is written in its shortest form. Assumes nothing.
-use mathlib.Core.Path.{_≡_, subst}
+use mathlib.Core.Path.{_≡_, refl, subst}
 use mathlib.Core.Bool.{Bool, true, false, cond}
 use mathlib.Core.List.{List, []}
 use Prim.Native.Nat.{ℕ, _+_, _%_, _≤_}
@@ -34,7 +34,8 @@ use Rattle.tables.proofs.Written.{cues-read-long, plays-read-long}
 use Rattle.rules.specs.Rules.{recordOf}
 use Rattle.reader.specs.Content.{zeros, formatPart, soundPart, cuePart, playlistPart, recordAt, verdictAt}
 use Rattle.reader.proofs.Kept.{formed}
-use Rattle.writer.specs.File.{partsOf, fileOf}
+use Rattle.writer.specs.File.{noTitles, partsOf, fileOf}
+use Rattle.writer.proofs.Sizes.{left-out}
 
 -- ---- a chunk that stands in the file
 wider : {n m : ℕ} → n ≤ m → extent n ≤ extent m
@@ -74,5 +75,6 @@ module _ (s : List ℕ) (d : Directory) (walked : directoryOf s ≡ Whole d) (f 
       let b = fact-fits s (d .fact) (needsFact (formatOf (formatPart s d))) (recordAt s d .frames) (k .fact) in
       let c = table-fits s (d .cues) (λ p. cuesBytes (cuesOf p)) (cues-read-long (cuePart s d) (k .cues)) in
       let p = table-fits s (d .plays) (λ p. playsBytes (playsOf p)) (plays-read-long (playlistPart s d) (k .plays)) in
+      let t = left-out noTitles refl in
       let w = stands s (d .sound) {n = length (soundPart s d)} g (omega arith) in
-      omega (arith, length-laid (partsOf (recordAt s d) (soundPart s d)), room-for-all s d walked, a, b, c, p, w)
+      omega (arith, length-laid (partsOf (recordAt s d) (soundPart s d)), room-for-all s d walked, a, b, c, p, t, w)

@@ -17,11 +17,11 @@ use Rattle.tables.specs.declared.Cues.{Cues}
 use Rattle.tables.specs.declared.Playlist.{Playlist}
 use Rattle.tables.specs.Bytes.{cuesBytes, playsBytes}
 use Rattle.rules.specs.declared.Record.{Record}
-use Rattle.writer.specs.File.{factChunk, cuesChunk, playsChunk, partsOf, fileOf}
+use Rattle.writer.specs.File.{factChunk, cuesChunk, playsChunk, noTitles, partsOf, fileOf}
 
 -- ---- a chunk that is written or left out
 module _ (p : Part) where
-  left-out : p .there ≡ false → 0 ≡ extentIf p
+  pub left-out : p .there ≡ false → 0 ≡ extentIf p
   unfolding extentIf
   left-out e = simp e
 
@@ -68,6 +68,7 @@ module _ (m : Record) (w : List ℕ) {fmt fact cue plst : ℕ}
   file-size =
       let l = length-laid (partsOf m w) in
       let f = fact-extent (m .format) (m .frames) in
+      let t = left-out noTitles refl in
       omega arith
 
   -- the same where n is the length of the sound

@@ -1,5 +1,6 @@
 -- The file of a record and its sound, the verdict on writing it, and the answer. Assumes nothing.
 use Prim.Native.Nat.{ℕ, _-_}
+use mathlib.Core.Bool.{false}
 use mathlib.Core.List.{List, [], _∷_, _++_}
 use lib.Dec.{leb}
 use lib.ListN.{length}
@@ -10,6 +11,7 @@ use Rattle.units.specs.declared.Verdict.{Verdict}
 use Rattle.units.specs.declared.Verdict.the-variants as verdict
 use Rattle.units.specs.Refusals.{fileLimit, verdictNumber}
 use Rattle.units.specs.Checks.{Check, check, decided}
+use Rattle.codes.specs.Codes.{codeBytes}
 use Rattle.codes.specs.declared.Code.the-variants as code
 use Rattle.riff.specs.Laying.{Part, Parts, piece, pieceBytes, partBytes, riffBytes, piecesOf, fileBytes}
 use Rattle.formats.specs.declared.Format.{Format}
@@ -37,6 +39,10 @@ cuesChunk c = record { there = leb 1 (c .count); bytes = cuesBytes c }
 abbrev pub playsChunk : Playlist → Part
 playsChunk p = record { there = leb 1 (p .count); bytes = playsBytes p }
 
+-- no list of titles is written
+abbrev pub noTitles : Part
+noTitles = record { there = false; bytes = codeBytes code.Titles }
+
 unfoldable pub partsOf : Record → List ℕ → Parts
 partsOf m w =
     record {
@@ -44,6 +50,7 @@ partsOf m w =
       fact = factChunk (m .format) (m .frames);
       cues = cuesChunk (m .cues);
       plays = playsChunk (m .playlist);
+      titles = noTitles;
       sound = w;
     }
 

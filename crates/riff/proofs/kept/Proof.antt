@@ -9,6 +9,7 @@ kept-spec =
     tie.close
     (tie.spec (λ c. search needs) (λ c κs. search needs) (λ c. search needs) (λ c κs. search needs)
     (λ c. search needs) (λ c κs. search needs) (λ c. search needs) (λ c κs. search needs) (λ c. search needs)
-    (λ c κs. search needs) (λ c. search needs) (λ c. search needs) (λ c. search (needs, kept-by))
+    (λ c κs. search needs) (λ c. search needs) (λ c κs. search needs) (λ c. search needs) (λ c. search needs)
     (λ c. search (needs, kept-by)) (λ c. search (needs, kept-by)) (λ c. search (needs, kept-by))
-    (λ c. search (needs, kept-by)) (λ c. search needs) (λ c. search needs))
+    (λ c. search (needs, kept-by)) (λ c. search (needs, kept-by)) (λ c. search (needs, kept-by))
+    (λ c. search (needs, kept-by)) (λ c. search (needs, kept-by)))

@@ -9,5 +9,5 @@ kind-at-spec =
     tie.close
     (tie.spec (λ c κs. search needs) (λ c. search (needs, kinds)) (λ c κs. search needs) (λ c. search (needs, kinds))
     (λ c κs. search needs) (λ c. search (needs, kinds)) (λ c κs. search needs) (λ c. search (needs, kinds))
-    (λ c κs. search needs) (λ c. search (needs, kinds)) (λ c κs. search needs) (λ c. search (needs, kinds))
-    (λ c. search (needs, kinds)))
+    (λ c κs. search needs) (λ c. search (needs, kinds)) (λ c κs. search needs) (λ c κs. search needs)
+    (λ c. search (needs, kinds)) (λ c. search (needs, kinds)))
