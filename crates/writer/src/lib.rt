@@ -23,7 +23,7 @@ ghost use Rattle.formats.specs.Format.{formatRule};
 ghost use Rattle.formats.specs.Frames.{needsFact};
 ghost use Rattle.formats.specs.Bytes.{formatBytes};
 ghost use Rattle.rules.specs.Written.{RecordFits};
-ghost use Rattle.riff.specs.Laying.{piece, padBytes, pieceBytes, partBytes, extentIf};
+ghost use Rattle.riff.specs.Laying.{piece, pieceBytes, partBytes, extentIf};
 ghost use Rattle.writer.specs.declared.Written.the-variants.{Bytes};
 ghost use Rattle.writer.specs.File.{factChunk, cuesChunk, playsChunk, fileOf, untilTables, tablesOf, writing, writtenVerdict};
 
@@ -170,17 +170,6 @@ fn put_plays(out: &mut [u8], at: usize, playlist: Playlist) -> usize
     at + 8 + size
 }
 
-// Puts the pad of a chunk of some size: a zero where the size is odd.
-fn put_pad(out: &mut [u8], at: usize, size: usize)
-    requires { ⌜ at + length (padBytes size) ≤ length (now out) ⌝ }
-    ensures buffer { λ _. ⌜ Put (now (out .entry)) at (padBytes size) (now (out .exit)) ⌝ }
-{
-    if size % 2 == 0 {
-        return;
-    }
-    out[at] = 0;
-}
-
 // Puts the two parts of a sound, one behind the other.
 fn put_joined(out: &mut [u8], at: usize, first: &[u8], second: &[u8])
     requires { ⌜ at + length (now first ++ now second) ≤ length (now out) ⌝ }
@@ -199,7 +188,7 @@ fn put_sound(out: &mut [u8], at: usize, first: &[u8], second: &[u8])
     let size = sound_size(first, second);
     riff::put_head(out, at, Code::Data, size as u32);
     put_joined(out, at + 8, first, second);
-    put_pad(out, at + 8 + size, size);
+    riff::put_pad(out, at + 8 + size, size);
 }
 
 // ---- the file

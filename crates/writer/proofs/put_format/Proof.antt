@@ -1,5 +1,5 @@
 -- The head and the data; no pad is needed.
-use Rattle.writer.proofs.Chunks.{chunks}
+use Rattle.riff.proofs.Putting.{chunks}
 use borrow.Author.Needs.{needs}
 use Rattle.writer.proofs.put_format.Statement.{statement}
 use Rattle.writer.proofs.put_format.Tie as tie
