@@ -113,12 +113,12 @@ abbrev pub isThere : Spot → Bool
 isThere (At p) = true
 isThere Missing = false
 
--- whether a chunk was met whose pad is absent
 abbrev pub isAbsent : Pad → Bool
 isAbsent NotNeeded = false
 isAbsent There = false
 isAbsent Absent = true
 
+-- whether a chunk was met whose pad is absent
 abbrev pub padLost : Spot → Bool
 padLost (At p) = isAbsent (p .pad)
 padLost Missing = false

@@ -11,7 +11,7 @@ ghost use mathlib.Core.Path.{_≡_};
 ghost use Prim.Native.Nat.{_+_, _≤_, min};
 ghost use lib.ListN.{length, take, drop};
 ghost use Rattle.little.specs.Writing.{Put};
-ghost use Rattle.riff.specs.Chunks.{headVerdict, listKind, kindAt, padAfter, padSize, placeAt, isThere, isAbsent, padLost, spotOf, early, startsAsWaves, waveList, chunkAt, directory, isKept, keepTitles, keep};
+ghost use Rattle.riff.specs.Chunks.{headVerdict, listKind, kindAt, padAfter, padSize, placeAt, isThere, padLost, spotOf, early, startsAsWaves, waveList, chunkAt, directory, isKept, keepTitles, keep};
 ghost use Rattle.riff.specs.Walk.{refusalOf, walkOf, directoryOf, partOf, bySpot, startOf};
 ghost use Rattle.riff.specs.Laying.{headBytes, padBytes, riffBytes};
 
@@ -216,17 +216,6 @@ pub fn there(spot: Spot) -> bool
     }
 }
 
-// Whether a pad is absent.
-fn absent(pad: Pad) -> bool
-    ensures answer { λ r. ⌜ r ≡ isAbsent pad ⌝ }
-{
-    match pad {
-        Pad::NotNeeded => false,
-        Pad::There => false,
-        Pad::Absent => true,
-    }
-}
-
 // Whether a chunk was met whose pad is absent.
 pub fn pad_lost(spot: Spot) -> bool
     ensures answer { λ r. ⌜ r ≡ padLost spot ⌝ }
@@ -235,7 +224,11 @@ pub fn pad_lost(spot: Spot) -> bool
         return false;
     };
     let pad = place.pad;
-    absent(pad)
+    match pad {
+        Pad::NotNeeded => false,
+        Pad::There => false,
+        Pad::Absent => true,
+    }
 }
 
 // Whether a chunk is the sound, before any format.
