@@ -50,7 +50,7 @@ pub struct Playlist {
 }
 
 // The entries of a table that are read: no more than there is room for.
-fn held_of(count: u32) -> usize
+pub fn held_of(count: u32) -> usize
     ensures answer { λ r. ⌜ r ≡ held count ⌝ }
     ensures bound { λ r. ⌜ r ≤ 64 ⌝ }
 {
@@ -167,7 +167,7 @@ pub fn cues_form(bytes: &[u8]) -> bool
 }
 
 // The names of cues, as plain numbers.
-fn names_of(list: [Cue; 64]) -> [u32; 64]
+pub fn names_of(list: [Cue; 64]) -> [u32; 64]
     ensures answer { λ r. ⌜ r ≡ map nameOf list ⌝ }
 {
     let mut names = [0u32; 64];
