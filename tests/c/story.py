@@ -23,7 +23,7 @@ def part(start, frames):
 
 def song(start, frames, rate=8000):
     """A song that is a part of the tune."""
-    return second_writer.write(Record((1, 1, rate, 16, 2, 1), frames, 0, [], 0, []), part(start, frames), ROOM)
+    return second_writer.write(Record((1, 1, rate, 16, 2, 1), frames, 0, [], 0, []), b'', part(start, frames), ROOM)
 
 
 class Story:

@@ -139,7 +139,7 @@ def facts(record, sound):
     tag, channels, rate, bits, align, samples = record.form
     # sox and libsndfile count the frames of ADPCM by whole blocks; the fact count is the record's.
     whole = len(sound) // align * samples
-    size, average = len(second_writer.file_of(record, sound)), rate * align // samples
+    size, average = len(second_writer.file_of(record, b'', sound)), rate * align // samples
     yield 'sox', (tag, channels, rate, bits, whole)
     yield 'ffmpeg', (tag, channels, rate, bits, record.frames)
     yield 'libsndfile', (tag, channels, rate, bits, align, average, size, len(sound), whole)
@@ -183,8 +183,8 @@ def check():
     made = {name: (record, sound) for name, record, sound in all_files()}
     for path in paths(WRITTEN):
         record, sound = made[path.name]
-        second_writer.check(record, sound)
-        if path.read_bytes() != second_writer.write(record, sound, 65536):
+        second_writer.check(record, b'', sound)
+        if path.read_bytes() != second_writer.write(record, b'', sound, 65536):
             raise ValueError(f'{path.name} is not what the second writer makes')
         meant, found = dict(facts(record, sound)), dict(said(path.with_suffix('.txt').read_text()))
         if meant != found:
@@ -193,4 +193,4 @@ def check():
 
 if __name__ == '__main__':
     for name, record, sound in all_files():
-        (WRITTEN / name).write_bytes(second_writer.write(record, sound, 65536))
+        (WRITTEN / name).write_bytes(second_writer.write(record, b'', sound, 65536))

@@ -76,10 +76,10 @@ def on_kept_sides():
 def pcm(size, bits=8, cues=()):
     """A PCM file of so many bytes, with cues that are played to the end."""
     record = Record((1, 1, 8000, bits, bits // 8, 1), 0, len(cues), cues, len(cues), [])
-    sound = bytes(place * place % 251 for place in range(size - len(second_writer.file_of(record, b''))))
+    sound = bytes(place * place % 251 for place in range(size - len(second_writer.file_of(record, b'', b''))))
     frames = len(sound) // (bits // 8)
     plays = [(name, frames - place, 1) for name, _, place in cues]
-    return second_writer.file_of(record._replace(frames=frames, plays=plays), sound)
+    return second_writer.file_of(record._replace(frames=frames, plays=plays), b'', sound)
 
 
 def blocks_within(align):

@@ -1,4 +1,4 @@
-"""A second way to do what the programs do that a volunteer calls, from document 01's text alone.
+"""A second way to do what the programs do that a volunteer calls, from the text of documents 01 and 02 alone.
 
 Each gives the lines that a program must print, and the file that it must write, None where it writes none. Files are
 read, decoded, coded, written and added to by the other second implementations.
@@ -21,9 +21,9 @@ def pcm16(sound):
     return struct.pack(f'<{len(sound)}h', *sound)
 
 
-def written(record, sound):
+def written(record, titles, sound):
     """The file of a record; its refusal."""
-    made = second_writer.write(record, sound, ROOM)
+    made = second_writer.write(record, titles, sound, ROOM)
     if isinstance(made, int):
         raise Refused(made)
     return made
@@ -36,11 +36,12 @@ def check(file):
 
 
 def decode(file):
-    """What `wave_decode IN OUT` says and writes."""
-    (_, channels, rate, _, _, _), frames, cues, plays, _, _ = second_reader.read(file)
+    """What `wave_decode IN OUT` says and writes: cues, playlist and titles are kept."""
+    (_, channels, rate, _, _, _), frames, cues, plays, _, _, titles = second_reader.read_all(file)
     _, sound = second_sound.decode(file, ROOM)
-    form = 1, channels, rate, 16, 2 * channels, 1
-    made = written(Record(form, frames, len(cues), cues, len(plays), plays), pcm16(sound))
+    form, (table, texts) = (1, channels, rate, 16, 2 * channels, 1), second_reader.placed(titles)
+    record = Record(form, frames, len(cues), cues, len(plays), plays, len(table), table)
+    made = written(record, texts, pcm16(sound))
     return [f'frames {frames}', f'bytes {len(made)}'], made
 
 
@@ -50,7 +51,7 @@ def encode(file, align):
     _, sound = second_sound.decode(file, ROOM)
     blocks, left, right = second_ima.encode(sound, channels, align, ROOM)
     form = 17, channels, rate, 4, align, second_ima.frames_in(align, channels)
-    made = written(Record(form, frames, 0, [], 0, []), blocks)
+    made = written(Record(form, frames, 0, [], 0, []), b'', blocks)
     return [f'frames {frames}', f'bytes {len(made)}', f'chased left {left}', f'chased right {right}'], made
 
 

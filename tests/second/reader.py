@@ -3,6 +3,9 @@ import struct
 
 PAIRS = [256, 0, 512, -256, 0, 0, 192, 64, 240, 0, 460, -208, 392, -232]
 SINGLE = (b'fmt ', b'data', b'fact', b'cue ', b'plst')
+# The chunks of a list of titles that are titles, and what a record calls their kinds.
+KINDS = {b'labl': 0, b'note': 1}
+MOST_TITLES = 128
 
 
 class Refused(Exception):
@@ -18,23 +21,34 @@ def number(data, at, size=4):
     return int.from_bytes(data[at:at + size], 'little')
 
 
-def walk(file):
-    """Refusals 1 to 7; where each chunk's data start, and the data, by code."""
+def tiled(data, at, refusal, lost):
+    """Code, start and data of the chunks that tile some bytes from a place on; the last pad may be lost, or may not."""
+    while at < len(data):
+        demand(at + 8 <= len(data), refusal)
+        code, size = data[at:at + 4], number(data, at + 4)
+        end = at + 8 + size
+        demand(end <= len(data) and (lost or end + size % 2 <= len(data)), refusal)
+        yield code, at + 8, data[at + 8:end]
+        # A last pad that is absent would be past the end.
+        at = end + size % 2
+
+
+def chunks(file):
+    """Refusals 1 to 4; code, start and data of each chunk of a file."""
     demand(12 <= len(file) <= 1 << 30, 1)
     demand(file[:4] == b'RIFF' and file[8:12] == b'WAVE', 2)
     demand(8 + number(file, 4) == len(file), 3)
-    found, at = {}, 12
-    while at < len(file):
-        demand(at + 8 <= len(file), 4)
-        code, size = file[at:at + 4], number(file, at + 4)
-        demand(at + 8 + size <= len(file), 4)
+    yield from tiled(file, 12, 4, True)
+
+
+def walk(file):
+    """Refusals 1 to 7; where each chunk's data start, and the data, by code."""
+    found = {}
+    for code, start, data in chunks(file):
         demand(code not in SINGLE or code not in found, 5)
         demand(code != b'data' or b'fmt ' in found, 6)
-        data = file[at + 8:at + 8 + size]
         demand(code != b'LIST' or data[:4] != b'wavl', 7)
-        found[code] = at + 8, data
-        # The last pad may be absent: then this passes the end.
-        at += 8 + size + size % 2
+        found[code] = start, data
     return found
 
 
@@ -78,8 +92,32 @@ def entries(data, size, refusal):
     return [data[at:at + size] for at in range(4, len(data), size)]
 
 
-def read(file):
-    """Format, frames, cues as (name, position, place), playlist as (name, length, times), start of the sound, sound."""
+def title_lists(file):
+    """Where the data of each list of titles start, and the data."""
+    return [(start, data) for code, start, data in chunks(file) if code == b'LIST' and data[:4] == b'adtl']
+
+
+def title(kind, data):
+    """Refusal 21 of a title by itself; its kind, the name of its cue, and its text with the zero."""
+    text = data[4:]
+    demand(len(data) >= 5 and len(text) <= 256 and text.find(0) == len(text) - 1, 21)
+    return kind, number(data, 0), text
+
+
+def titles_in(file, names):
+    """Refusal 21 of a file whose cues have these names; the kind, the name and the text of each title."""
+    lists, found = title_lists(file), []
+    demand(len(lists) <= 1, 21)
+    for start, data in lists:
+        inner = tiled(data, 4, 21, start + len(data) == len(file))
+        found += [title(KINDS[code], part) for code, _, part in inner if code in KINDS]
+    demand(all(name in names for _, name, _ in found), 21)
+    demand(len({(kind, name) for kind, name, _ in found}) == len(found) <= MOST_TITLES, 21)
+    return found
+
+
+def read_all(file):
+    """What `read` gives, and the titles; refusals 1 to 13 and 21."""
     found = walk(file)
     demand(b'fmt ' in found and b'data' in found, 8)
     form = layout(found[b'fmt '][1])
@@ -95,7 +133,33 @@ def read(file):
     plays = [struct.unpack('<III', entry) for entry in entries(found.get(b'plst', (0, bytes(4)))[1], 12, 13)]
     for name, count, times in plays:
         demand(name in places and count >= 1 and places[name] + count <= length and times >= 1, 13)
-    return form, length, cues, plays, start, sound
+    return form, length, cues, plays, start, sound, titles_in(file, places)
+
+
+def read(file):
+    """Format, frames, cues as (name, position, place), playlist as (name, length, times), start of the sound, sound."""
+    return read_all(file)[:6]
+
+
+def titles(file):
+    """The titles of a file that is accepted, each as (kind, name, text with its zero)."""
+    return read_all(file)[6]
+
+
+def placed(found):
+    """Titles as a record holds them, each as (kind, name, start, length), and their texts as they are stored."""
+    table, texts = [], b''
+    for kind, name, text in found:
+        table.append((kind, name, len(texts), len(text) - 1))
+        texts += text
+    return table, texts
+
+
+def read_titles(file, room):
+    """Refusals 1 to 13, 21 and 14; the titles as a record holds them, and their texts, in so many bytes."""
+    table, texts = placed(titles(file))
+    demand(len(texts) <= room, 14)
+    return table, texts
 
 
 def listing(file):

@@ -1,4 +1,4 @@
-"""A second decoder of whole files and of single blocks, from document 01's text alone.
+"""A second decoder of whole files and of single blocks, from the text of documents 01 and 02 alone.
 
 Reading is the second reader's, a block of IMA the second coder's, one of Microsoft the second decoder's of that.
 """
@@ -18,7 +18,7 @@ def pcm(sound, bits):
 
 
 def decode(file, room):
-    """Refusals 1 to 13, 14 and 15; the frames of a file, and its sound."""
+    """Refusals 1 to 13, 21, 14 and 15; the frames of a file, and its sound."""
     (tag, channels, _, bits, align, _), frames, _, _, _, sound = read(file)
     demand(frames * channels <= room, 14)
     if tag == 1:
@@ -28,7 +28,7 @@ def decode(file, room):
 
 
 def decode_block(file, block, room):
-    """Refusals 1 to 13, 20, 14 and 15; the frames of one block of a file, and its sound with the fill."""
+    """Refusals 1 to 13, 21, 20, 14 and 15; the frames of one block of a file, and its sound with the fill."""
     (tag, channels, _, _, align, samples), _, _, _, _, sound = read(file)
     demand(tag != 1 and block < len(sound) // align, 20)
     demand(samples * channels <= room, 14)

@@ -1,4 +1,4 @@
-"""A second writer of WAVE files, from document 01's text alone, to compare the library's programs with.
+"""A second writer of WAVE files, from the text of documents 01 and 02 alone, to compare the library's programs with.
 
 Only `check` reads, with the second reader; the writer itself knows nothing of it.
 """
@@ -11,13 +11,24 @@ LIMIT = 1 << 30
 PAIRS = [(256, 0), (512, -256), (0, 0), (192, 64), (240, 0), (460, -208), (392, -232)]
 
 # form is tag, channels, rate, bits, align, samples per block; cues are (name, position, place) and plays
-# (name, length, times). There is room for 64 of each, all zero past those that are given.
-Record = namedtuple('Record', 'form frames cue_count cues play_count plays')
+# (name, length, times). There is room for 64 of each, all zero past those that are given. titles are
+# (kind, name, start, length), where the text stands in a buffer beside the record; there is room for 128.
+Record = namedtuple('Record', 'form frames cue_count cues play_count plays title_count titles', defaults=(0, ()))
 
 
 def counted(entries, count):
     """The entries of a table that are part of the record."""
     return (list(entries) + [(0, 0, 0)] * 64)[:64][:count]
+
+
+def titles_of(record):
+    """The titles that are part of the record."""
+    return (list(record.titles) + [(0, 0, 0, 0)] * 128)[:128][:record.title_count]
+
+
+def texts_end(record):
+    """Where the last text ends, of a record whose texts are in a row."""
+    return sum(length + 1 for _, _, _, length in titles_of(record))
 
 
 def samples_in(tag, channels, align):
@@ -61,8 +72,34 @@ def plays_fine(record):
                for name, length, times in counted(record.plays, record.play_count))
 
 
-def refusal(record, length):
-    """The number that a record with so many bytes of sound gets by **Writing**, but for 1 and 14; None if accepted."""
+def in_a_row(record, titles):
+    """Whether the texts stand one after the other from the start of a buffer, and all in it."""
+    ends = [0]
+    for _, _, start, length in titles_of(record):
+        if start != ends[-1]:
+            return False
+        ends.append(start + length + 1)
+    return ends[-1] <= len(titles)
+
+
+def titles_fine(record, titles):
+    """Whether the titles are as reading gives them; the cues are fine already."""
+    if record.title_count > 128 or not in_a_row(record, titles):
+        return False
+    names, seen = {name for name, _, _ in counted(record.cues, record.cue_count)}, set()
+    for kind, name, start, length in titles_of(record):
+        if kind not in (0, 1) or name not in names or (kind, name) in seen:
+            return False
+        # The first zero of a text is the last byte of it.
+        if length > 255 or titles.find(0, start) != start + length:
+            return False
+        seen.add((kind, name))
+    return True
+
+
+def refusal(record, titles, length):
+    """The number that a record with these texts and so many bytes of sound gets by **Writing**, but for 1 and 14; None
+    if accepted."""
     tag, _, _, _, align, samples = record.form
     if not format_fine(*record.form):
         return 9
@@ -72,7 +109,9 @@ def refusal(record, length):
         return 11
     if not cues_fine(record):
         return 12
-    return None if plays_fine(record) else 13
+    if not plays_fine(record):
+        return 13
+    return None if titles_fine(record, titles) else 21
 
 
 def chunk(code, data):
@@ -103,8 +142,16 @@ def plst(record):
     return struct.pack('<I', record.play_count) + b''.join(entries)
 
 
-def file_of(record, sound):
-    """The file of a record and its sound; of a refused record, what would stand there."""
+def adtl(record, titles):
+    """The data of the list of titles; of a refused record, with any texts, and other codes than those of titles."""
+    codes = {0: b'labl', 1: b'note'}
+    found = [chunk(codes.get(kind, b'ltxt'), struct.pack('<I', name) + titles[start:start + length + 1])
+             for kind, name, start, length in titles_of(record)]
+    return b'adtl' + b''.join(found)
+
+
+def file_of(record, titles, sound):
+    """The file of a record, its texts and its sound; of a refused record, what would stand there."""
     chunks = [chunk(b'fmt ', fmt(*record.form))]
     if record.form[0] != 1:
         chunks.append(chunk(b'fact', struct.pack('<I', record.frames)))
@@ -112,37 +159,47 @@ def file_of(record, sound):
         chunks.append(chunk(b'cue ', cue(record)))
     if record.play_count > 0:
         chunks.append(chunk(b'plst', plst(record)))
+    if record.title_count > 0:
+        chunks.append(chunk(b'LIST', adtl(record, titles)))
     body = b'WAVE' + b''.join(chunks) + chunk(b'data', sound)
     return b'RIFF' + struct.pack('<I', len(body)) + body
 
 
-def write(record, sound, room):
+def write(record, titles, sound, room):
     """The file, or the number of the refusal."""
-    number = refusal(record, len(sound))
+    number = refusal(record, titles, len(sound))
     if number is not None:
         return number
-    file = file_of(record, sound)
+    file = file_of(record, titles, sound)
     if len(file) > LIMIT:
         return 1
     return file if len(file) <= room else 14
 
 
-def unseen(record, length):
-    """Whether the file would not show the fault: PCM stores no samples per block and no frames."""
+def unseen(record, titles, length):
+    """Whether the file would not show the fault: PCM stores no samples per block and no frames, and the list of titles
+    neither where their texts stood nor kinds that there are not."""
     tag, channels, rate, bits, align, _ = record.form
+    number = refusal(record, titles, length)
+    if number == 21:
+        kinds = {kind for kind, _, _, _ in titles_of(record)}
+        return record.title_count > 128 or not in_a_row(record, titles) or not kinds <= {0, 1}
     return tag == 1 and (not format_fine(*record.form) and format_fine(tag, channels, rate, bits, align, 1)
-                         or refusal(record, length) == 11)
+                         or number == 11)
 
 
-def check(record, sound):
-    """Stops where the second reader says otherwise: of a written file record and sound, of a refused one the number."""
-    number, file = refusal(record, len(sound)), file_of(record, sound)
+def check(record, titles, sound):
+    """Stops where the second reader says otherwise: of a written file record, texts and sound, of a refused one the
+    number."""
+    number, file = refusal(record, titles, len(sound)), file_of(record, titles, sound)
     try:
-        form, frames, cues, plays, _, heard = second_reader.read(file)
-        said = None, Record(form, frames, len(cues), cues, len(plays), plays), heard
+        form, frames, cues, plays, _, heard, found = second_reader.read_all(file)
+        table, texts = second_reader.placed(found)
+        said = None, Record(form, frames, len(cues), cues, len(plays), plays, len(table), table), texts, heard
     except second_reader.Refused as refused:
         said = refused.args
-    kept = record._replace(cues=counted(record.cues, record.cue_count), plays=counted(record.plays, record.play_count))
-    meant = (None, kept, sound) if number is None else (number,)
-    if said != meant and not unseen(record, len(sound)):
+    kept = record._replace(cues=counted(record.cues, record.cue_count), plays=counted(record.plays, record.play_count),
+                           titles=titles_of(record))
+    meant = (None, kept, titles[:texts_end(record)], sound) if number is None else (number,)
+    if said != meant and not unseen(record, titles, len(sound)):
         raise ValueError(f'the second writer says {meant}, the second reader {said}')

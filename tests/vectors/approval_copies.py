@@ -28,7 +28,7 @@ def lines_of(sound, channels, align, rate, room):
         blocks, left, right = second_ima.encode(sound, channels, align, room)
     except Refused as refusal:
         return [f'encode refused {refusal.args[0]}']
-    file = second_writer.write(record_for(sound, channels, align, rate), blocks, room)
+    file = second_writer.write(record_for(sound, channels, align, rate), b'', blocks, room)
     if isinstance(file, int):
         return [f'write refused {file}']
     frames, heard = second_sound.decode(file, len(sound))

@@ -1,8 +1,10 @@
 """The input of the program `vectors`: entries of every operation one after the other, and the lines that it prints."""
 import random
+import struct
 
 from data import songs
 from second import reader as second_reader
+from second.reader import Refused, mixed
 from vectors import approval_copies, ground, ima_sounds, many_files, side_files, sound_files, wave_files, writer_records
 
 # The byte before an entry that says its operation.
@@ -11,12 +13,49 @@ OPERATIONS = {'unit': b'U', 'number': b'N', 'put': b'P', 'sample': b'S', 'read':
 
 # The most bytes that the program reads.
 ROOM = 524288
+# The most bytes that the texts of a file have.
+MOST_TEXTS = 128 * 256
 
 
-def read(label, file):
-    """A file to read, and the lines under its label by the second reader."""
+def file_entry(label, file, room):
+    """A file to read as `vectors` takes it, with so many bytes that are lent for titles."""
+    return struct.pack('<2HI', len(label), room, len(file)) + label.encode() + file
+
+
+def title_lines(file, room):
+    """What must be printed of a file's titles and of the bytes that were lent for them, each 170 before."""
+    try:
+        table, texts = second_reader.read_titles(file, room)
+    except Refused as refusal:
+        return [f'titles refused {refusal.args[0]}', f'rest {room} untouched']
+    places = ''.join(f' {number}' for title in table for number in title)
+    return [f'titles{places}', f'texts bytes {len(texts)} mixed {mixed(texts)}', f'rest {room - len(texts)} untouched']
+
+
+def read(label, file, room=None):
+    """A file to read, and the lines under its label by the second reader; where nothing else is said, two bytes more
+    than enough are lent for titles."""
+    if room is None:
+        room = room_for(file) + 2
     listed, left_out = second_reader.listing(file)
-    return wave_files.labelled(label, file), [label, *listed, *left_out]
+    return file_entry(label, file, room), [label, *listed, *left_out, *title_lines(file, room)]
+
+
+def room_for(file):
+    """How many bytes the texts of a file need; none where it is refused."""
+    try:
+        return len(second_reader.placed(second_reader.titles(file))[1])
+    except Refused:
+        return 0
+
+
+def titles_said(file, room):
+    """The titles of a file as the table says them: kind, name and text before its zero; or the refusal."""
+    try:
+        table, texts = second_reader.read_titles(file, room)
+    except Refused as refusal:
+        return refusal.args[0]
+    return [(kind, name, texts[start:start + length]) for kind, name, start, length in table]
 
 
 def border_files():
@@ -26,6 +65,17 @@ def border_files():
         if listed != expected:
             raise ValueError(f'{label}: the table says {expected}, the second reader {listed}')
         yield read(label, file)
+
+
+def border_titles():
+    """The titles that the same tables say, and how many bytes are lent for them."""
+    lists = ((label, file, MOST_TEXTS, said) for label, file, said, _ in wave_files.title_lists())
+    for label, file, room, said in (*lists, *wave_files.title_rooms()):
+        found = titles_said(file, room)
+        if found != said:
+            raise ValueError(f'{label}: the table says {said}, the second reader {found}')
+    for label, file, room, _ in wave_files.title_rooms():
+        yield read(label, file, room)
 
 
 def other_sides():
@@ -43,8 +93,9 @@ def stored():
     """What is stored: the tables of all operations; then a byte that is no operation, and an entry that is not run."""
     made = marked({
         'unit': ground.refusals(), 'number': ground.numbers(), 'put': ground.puts(), 'sample': ground.samples(),
-        'read': border_files(), 'encode': ima_sounds.all_vectors(), 'decode': sound_files.all_vectors(),
-        'write': writer_records.all_vectors(), 'add': side_files.all_vectors(), 'copy': approval_copies.all_vectors()})
+        'read': [*border_files(), *border_titles()], 'encode': ima_sounds.all_vectors(),
+        'decode': sound_files.all_vectors(), 'write': writer_records.all_vectors(), 'add': side_files.all_vectors(),
+        'copy': approval_copies.all_vectors()})
     return [*made, (b'?' + made[0][0], ['no operation 63'])]
 
 

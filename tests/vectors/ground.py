@@ -26,6 +26,7 @@ REFUSALS = """\
 18 already listed, same sound: nothing to do
 19 not a side
 20 no such block
+21 a wrong list of titles or title
 """
 
 

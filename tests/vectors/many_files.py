@@ -6,7 +6,8 @@ from vectors import wave_files
 
 VALUES = [0, 1, 2, 3, 4, 7, 8, 15, 16, 17, 18, 20, 32, 50, 63, 64, 65, 255, 256, 4096, 4097, 32768, 65535, 192000,
           192001, 178956971, 357913942, 2**29, 2**31 - 1, 2**31, 2**32 - 8, 2**32 - 2, 2**32 - 1]
-CODES = [b'fmt ', b'data', b'fact', b'cue ', b'plst', b'LIST', b'junk']
+CODES = [b'fmt ', b'data', b'fact', b'cue ', b'plst', b'LIST', b'junk', b'labl', b'note']
+LISTS = [b'wavl', b'wav', b'INFO', b'adtl', b'']
 
 
 def rich():
@@ -15,6 +16,12 @@ def rich():
     cue, plst, data = wave_files.cue(*points), wave_files.plst(*entries), wave_files.data
     yield wave_files.wave(wave_files.fmt(), cue, plst, data())
     title = wave_files.chunk(b'LIST', b'INFOabc')
+    labels = [wave_files.labl(8, b'Two'), wave_files.chunk(b'ltxt', b'abc'), wave_files.labl(7, b'One')]
+    titles, odd = wave_files.adtl(*labels, wave_files.note(7, b'a')), wave_files.note(8, b'even')
+    yield wave_files.wave(wave_files.fmt(), cue, plst, titles, data())
+    yield wave_files.wave(titles, wave_files.ima(2, 16, 9), wave_files.fact(12), data(32), cue, plst)
+    yield wave_files.unpadded(wave_files.microsoft(2, 17, 5), cue, wave_files.fact(6), data(34), plst,
+                              wave_files.adtl(*labels, wave_files.bare(odd)))
     yield wave_files.wave(wave_files.ima(2, 16, 9), wave_files.fact(12), cue, plst, title, data(32))
     yield wave_files.wave(wave_files.microsoft(2, 17, 5), plst, cue, wave_files.fact(6), data(34))
     yield wave_files.unpadded(wave_files.ima(2, 16, 9), wave_files.fact(12), plst, cue, data(32), title)
@@ -44,8 +51,9 @@ def chunks_of(file):
 
 
 def another(file, chance):
-    """The file with one byte or field changed, cut, lengthened, or with its chunks in another order or number."""
-    way, at = chance.randrange(6), chance.randrange(len(file) + 1)
+    """The file with one byte or field changed, cut, lengthened, or with its chunks in another order or number; or with
+    all this done to one of its lists, which is laid out as a file is."""
+    way, at = chance.randrange(7), chance.randrange(len(file) + 1)
     if way == 0:
         return file[:at] + bytes([chance.randrange(256)]) + file[at + 1:]
     if way == 1:
@@ -58,12 +66,17 @@ def another(file, chance):
     if way == 3:
         return sized(file[:at] + file[at + chance.randrange(1, 9):] + bytes(chance.randrange(4)))
     found, rest = chunks_of(file)
+    lists = [place for place, made in enumerate(found) if made[:4] == b'LIST' and len(made) > 12]
     if way == 4:
         chance.shuffle(found)
+    elif way == 6 and lists:
+        one = chance.choice(lists)
+        made = another(found[one], chance)
+        found[one] = made + bytes(len(made) % 2)
     elif found:
         one = chance.randrange(len(found))
         new = chance.choice([[], [found[one]] * 2, [chance.choice(CODES) + found[one][4:]],
-                             [wave_files.chunk(b'LIST', chance.choice([b'wavl', b'wav', b'INFO', b''])), found[one]],
+                             [wave_files.chunk(b'LIST', chance.choice(LISTS)), found[one]],
                              [wave_files.chunk(found[one][:4], found[one][8:] + bytes(chance.choice([1, 2, 12, 24])))]])
         found[one:one + 1] = new
     return sized(file[:12] + b''.join(found) + rest)

@@ -1,7 +1,7 @@
-"""Sides and songs to add to them, at the borders of document 01's rules, as `vectors` takes them.
+"""Sides and songs to add to them, at the borders of the rules of documents 01 and 02, as `vectors` takes them.
 
-Beside each stands its answer, worked out by hand from document 01, and of a few the whole file; the second way to
-add must say the same. What `vectors` must print besides is what that says.
+Beside each stands its answer, worked out by hand from those, and of a few the whole file; the second way to add must
+say the same. What `vectors` must print besides is what that says.
 
 An entry is four numbers of two bytes, two of four, the label, the side file and the song file. The numbers are: the
 length of the label; the room in bytes, at most 16,384; the lengths of the side file and the song file; the song's
@@ -11,11 +11,12 @@ the limit its rate.
 import random
 import struct
 
-from second import side as second_side, writer as second_writer
+from second import reader as second_reader, side as second_side, writer as second_writer
 from second.writer import Record
 from vectors import many_files
-from vectors.wave_files import chunk, cue, data, entry, fact, fmt, ima, microsoft, plst, point, unpadded, wave
-from vectors.writer_records import answer_lines, damaged, hexed, spelled
+from vectors.wave_files import (LONG, adtl, bare, chunk, cue, data, entry, fact, fmt, ima, labl, microsoft, note, plst,
+                                point, unpadded, wave)
+from vectors.writer_records import answer_lines, damaged, hexed, list_size, some_titles, spelled
 
 MOST = 2**32 - 1
 ROOM = 16384
@@ -62,6 +63,12 @@ def side(*songs, channels=1, rate=8000):
     """A side with these songs, each a name and how many frames, as document 01 writes it."""
     tables = pieces(*songs, channels=channels)
     return wave(fmt(channels=channels, rate=rate), *(tables if songs else tables[2:]))
+
+
+def labelled(*titles, songs=((7, 2), (8, 3)), **more):
+    """A side with these songs and a list of these titles, as document 02 writes it."""
+    cues, plays, sound = pieces(*songs)
+    return wave(fmt(), cues, plays, adtl(*titles, **more), sound)
 
 
 def tabled(cues, plays, form=None, sound=None, more=()):
@@ -165,6 +172,17 @@ def by_hand():
         f"'cue ' 34000000 02000000 09000000 ffffffff {code} {zeros} 00000000 " \
         f'00000000 01000000 {code} {zeros} 01000000 ' \
         f"'plst' 1c000000 02000000 09000000 01000000 01000000 00000000 01000000 01000000 {code} 04000000 01080108"
+    # The side's titles in their order, without the chunk between them; the song's are left where they are.
+    nine, kept = cue(point(9, 0)), adtl(note(9, b'abc'), chunk(b'ltxt', b'abc'), labl(9, b'Song'))
+    yield 'a side with titles, and a song with titles of its own', \
+        wave(fmt(), kept, plst(entry(9, 1)), data(2), nine), \
+        wave(fmt(), nine, adtl(labl(9, b'Other'), note(9, b'x')), data(2)), 10, MOST, \
+        f"b6000000 'WAVE' 'fmt ' {MONO} " \
+        f"'cue ' 34000000 02000000 09000000 00000000 {code} {zeros} 00000000 " \
+        f'0a000000 01000000 {code} {zeros} 01000000 ' \
+        f"'plst' 1c000000 02000000 09000000 01000000 01000000 0a000000 01000000 01000000 " \
+        f"'LIST' 26000000 'adtl' 'note' 08000000 09000000 'abc' 00 'labl' 09000000 09000000 'Song' 00 00 " \
+        f'{code} 04000000 01080108'
 
 
 def examples():
@@ -243,6 +261,44 @@ def positions():
         yield adding(f'positions {first} and {second}', size(3, 7), old, song())
 
 
+def titles():
+    """The titles of a side are kept, whatever the song's; what is skipped in its list is not."""
+    song_of, one = labl(7, b'Song'), note(8, b'A note')
+    old = labelled(song_of, one)
+    yield adding('a side with titles', size(3, 7) + list_size(4, 6), old, song())
+    yield adding('a side with titles in another order', size(3, 7) + list_size(6, 4), labelled(one, song_of), song())
+    yield adding('a side with a label and a note of one song', size(3, 7) + list_size(4, 0),
+                 labelled(song_of, note(7, b'')), song())
+    yield adding('a side with the longest label', size(3, 7) + list_size(255), labelled(labl(7, LONG)), song())
+    yield adding('a side with chunks that are skipped among titles', size(3, 7) + list_size(4, 6),
+                 labelled(chunk(b'ltxt', b'abc'), song_of, chunk(b'file'), one, chunk(b'labL', b'x')), song())
+    yield adding('a side with a list of 4 bytes', size(3, 7), labelled(), song())
+    yield adding('a side with a list of skipped chunks', size(3, 7), labelled(chunk(b'ltxt', b'abc')), song())
+    yield adding('an empty side with a list of 4 bytes', size(1, 2), wave(fmt(), adtl(), data(0)), song())
+    cues, plays, sound = pieces((7, 2), (8, 3))
+    for label, made in (('before all others', wave(adtl(song_of), fmt(), cues, plays, sound)),
+                        ('behind the sound', wave(fmt(), cues, plays, sound, adtl(song_of))),
+                        ('before the cues', wave(fmt(), adtl(song_of), plays, cues, sound)),
+                        ('beside lists of other kinds', wave(fmt(), TITLE, cues, adtl(song_of), plays, TITLE, sound)),
+                        ('at the end, without pads', unpadded(fmt(), cues, plays, sound, adtl(bare(song_of)))),
+                        ('with pads that are not 0', wave(fmt(), cues, plays, adtl(bare(song_of) + b'\xff'), sound))):
+        yield adding(f'a side with a list {label}', size(3, 7) + list_size(4), made, song())
+    yield adding('a song with titles', size(2, 7), side((7, 2)), labelled(song_of, one))
+    yield adding('a song with titles, number 8', size(2, 7), side((7, 2)), labelled(song_of, one), 8)
+    yield adding('a song with titles on an empty side', size(1, 5), side(), labelled(song_of, one), 7)
+    yield adding('a side with titles, and a song with titles', size(3, 10) + list_size(4, 6), old,
+                 labelled(labl(7, b'Other'), songs=((7, 5),)))
+    yield adding('a side with titles as a song of itself', size(3, 10) + list_size(4, 6), old, old)
+    yield adding('a side with titles, a listed song again', 18, old, song(2, 7), 7)
+    yield adding('a side with titles, other sound of a listed song', 16, old, song(), 7)
+    many = labelled(*[made(100 + turn, b'') for turn in range(63) for made in (labl, note)],
+                    songs=[(100 + turn, 1) for turn in range(63)])
+    yield adding('126 titles', size(64, 65) + list_size(*[0] * 126), many, song())
+    need = size(3, 7) + list_size(4, 6)
+    for room in (0, need - 1, need, need + 1):
+        yield adding(f'titles, room {room} of {need}', need if room >= need else 14, old, song(), room=room)
+
+
 # ---- refusals
 
 def faulty():
@@ -269,9 +325,22 @@ def faulty():
     yield 'times 0', 13, tabled([(7, 0)], [(7, 2, 0)], sound=sound)
 
 
+def faulty_titles():
+    """What is wrong with the titles of a file, and the file; but for that it is a side."""
+    cues, plays, sound = pieces((7, 2))
+    song_of = labl(7, b'Song')
+    for label, made in (('a label of no song', [adtl(labl(9, b'Song'))]), ('two labels', [adtl(song_of, song_of)]),
+                        ('a text without zero', [adtl(labl(7, b'Song', b''))]),
+                        ('a zero inside a text', [adtl(labl(7, b'So\0ng'))]),
+                        ('a text of 256 bytes', [adtl(labl(7, LONG + b'a'))]),
+                        ('a title past the list', [adtl(chunk(b'labl', song_of[8:16], 9))]),
+                        ('a title without pad', [adtl(bare(song_of))]), ('two lists', [adtl(song_of), adtl()])):
+        yield label, wave(fmt(), cues, plays, *made, sound)
+
+
 def refused_files():
-    """The song's refusals 1 to 13; 19 where the side has them."""
-    for label, said, made in faulty():
+    """The song's refusals 1 to 13 and 21; 19 where the side has them."""
+    for label, said, made in (*faulty(), *((label, 21, made) for label, made in faulty_titles())):
         yield adding(f'song: {label}', said, side(), made)
         yield adding(f'side: {label}', 19, made, song())
 
@@ -452,6 +521,7 @@ def all_at_once():
     silent = song(0, bits=8)
     for label, said, *asks in (
             ('all faults from the song on', 9, wrong, bad, 7, 0, 0),
+            ('all faults from 21 on', 21, wrong, wave(fmt(bits=8), adtl(labl(7, b'Song')), data(0)), 7, 0, 0),
             ('all faults from 19 on', 19, wrong, silent, 7, 0, 0),
             ('all faults from 9 on', 9, old, silent, 7, 0, 0),
             ('all faults from no frames on', 16, old, song(0), 7, 0, 0),
@@ -472,6 +542,18 @@ def two_by_two():
     yield adding('a song and a side that are refused', 2, half, b'RIFX' + song()[4:])
     yield adding('a song of no bytes, and no side', 1, wrong, b'')
     yield adding('a wrong playlist, and no side', 13, wrong, wave(fmt(), plst(entry(7, 1)), data(4)))
+    # The list is wrong, as there are no cues.
+    listed = adtl(labl(7, b'Song'))
+    untrue = wave(fmt(), listed, data(4))
+    yield adding('a wrong playlist and a wrong list, and no side', 13, wrong,
+                 wave(fmt(), plst(entry(7, 1)), listed, data(4)))
+    yield adding('a wrong list, and no side', 21, wrong, untrue)
+    yield adding('a wrong list, and a side with one', 21, wave(fmt(), listed, data(0)), untrue)
+    yield adding('a wrong list, and a side that is refused', 21, b'', untrue)
+    yield adding('a wrong list in 8 bits', 21, old, wave(fmt(bits=8), listed, data(4)))
+    yield adding('a wrong list without frames', 21, old, wave(fmt(), listed, data(0)))
+    yield adding('a wrong list of a listed number, over the limit, no room', 21, old, untrue, 7, 0, 0)
+    yield adding('a side with a wrong list, and a song in 8 bits', 19, wave(fmt(), listed, data(0)), eight)
     yield adding('a wrong cue in a song without frames', 12, old, wave(fmt(), cue(point(7, 0)), data(0)))
     yield adding('a song that is refused, in 8 bits', 11, old, wave(fmt(bits=8), chunk(b'fact'), data(4)))
     yield adding('half a frame of a listed number', 10, old, half, 7)
@@ -499,9 +581,9 @@ def two_by_two():
 
 
 def all_vectors():
-    return [*starts(), *examples(), *first_songs(), *more_songs(), *left_out(), *positions(), *refused_files(),
-            *no_sides(), *unlike_songs(), *silent_songs(), *listed_songs(), *long_songs(), *limits(), *full_sides(),
-            *rooms(), *all_at_once(), *two_by_two()]
+    return [*starts(), *examples(), *first_songs(), *more_songs(), *left_out(), *positions(), *titles(),
+            *refused_files(), *no_sides(), *unlike_songs(), *silent_songs(), *listed_songs(), *long_songs(), *limits(),
+            *full_sides(), *rooms(), *all_at_once(), *two_by_two()]
 
 
 # ---- what is tried besides
@@ -553,15 +635,15 @@ def rearranged(file, chance):
     return (unpadded if order[-1] == ODD and chance.random() < 0.5 else wave)(*order)
 
 
-def some_file(chance, record, sound):
-    """The file of a record and its sound; now and then it says something else, or is damaged."""
+def some_file(chance, record, texts, sound):
+    """The file of a record, its texts and its sound; now and then it says something else, or is damaged."""
     way = chance.randrange(12)
     if way == 0:
-        record, sound = damaged(record, sound, chance)
+        record, texts, sound = damaged(record, texts, sound, chance)
     elif way == 1:
         field = chance.choice(['cues', 'plays'])
         record = record._replace(**{field: chance.sample(getattr(record, field), len(record.cues))})
-    file = second_writer.file_of(record, sound)
+    file = second_writer.file_of(record, texts, sound)
     if way == 2:
         return many_files.another(file, chance) or b'R'
     return file if way < 6 else rearranged(file, chance)
@@ -589,7 +671,8 @@ def some_record(chance, channels, rate, sound):
                          (1, channels, rate + 1, 16, align, 1), (1, channels, rate, 8, channels, 1)])
     frames = len(sound) // form[4]
     own = [(7, 0, 0)] if frames and chance.random() < 0.2 else []
-    return Record(form, frames, len(own), own, len(own), [(7, 1, 2)] * len(own))
+    titles, texts = second_reader.placed([(0, chance.choice([7] * 9 + [9]), b'Own\0')] * len(own))
+    return Record(form, frames, len(own), own, len(own), [(7, 1, 2)] * len(own), len(titles), titles), texts
 
 
 def some_vector(chance, label):
@@ -601,8 +684,10 @@ def some_vector(chance, label):
     listed = [chance.choice(held).number] * 2 if held else []
     number = chance.choice([*listed, chance.randrange(80), chance.randrange(2**32), MOST, 0])
     sound = some_sound(chance, held, number, 2 * channels)
-    old = some_file(chance, *second_side.joined((1, channels, rate, 16, 2 * channels, 1), held))
-    new = some_file(chance, some_record(chance, channels, rate, sound), sound)
+    record, _, joined = second_side.joined((1, channels, rate, 16, 2 * channels, 1), held)
+    titles, texts = some_titles(chance, [song.number for song in held])
+    old = some_file(chance, record._replace(title_count=len(titles), titles=titles), texts, joined)
+    new = some_file(chance, *some_record(chance, channels, rate, sound), sound)
     end = sum(song.length for song in held)
     most = end + len(sound) // (2 * channels)
     limit = chance.choice([*[MOST, most] * 4, most + 1, max(most - 1, 0), end, 0])

@@ -1,4 +1,5 @@
-"""Files to decode, whole or one block of them, at the borders of document 01's rules, as `vectors` takes them.
+"""Files to decode, whole or one block of them, at the borders of the rules of documents 01 and 02, as `vectors` takes
+them.
 
 Each comes with the lines that `vectors` must print, by the second decoder; document 01's own examples are
 held to what it prints of them.
@@ -207,18 +208,20 @@ def stereo_headers():
 
 
 def refused_by_reader():
-    """Refusals 1 to 13 come first, whatever the room, the block and the headers."""
+    """Refusals 1 to 13 and 21 come first, whatever the room, the block and the headers."""
     files = {}
     for label, file, lines in wave_files.all_files():
         if lines[0].startswith('refused'):
             files.setdefault(lines[0], file)
-    for number in range(1, 14):
+    for number in (*range(1, 14), 21):
         file = files[f'refused {number}']
         yield vector(f'refusal {number}', 0, 0, number % 3, file)
         yield vector(f'refusal {number}, a block that is not there', 1, 2**32 - 1, number % 2, file)
     wrong = wave_files.chunk(b'data', header(0, 89) + bytes(4))
-    for label, chunks in (('fact', [wave_files.fact(10)]), ('cues', [wave_files.fact(9), wave_files.chunk(b'cue ')]),
-                          ('playlist', [wave_files.fact(9), wave_files.chunk(b'plst')])):
+    fact, titles = wave_files.fact(9), wave_files.adtl(wave_files.labl(7, b'Song'))
+    for label, chunks in (('fact', [wave_files.fact(10)]), ('cues', [fact, wave_files.chunk(b'cue ')]),
+                          ('playlist', [fact, wave_files.chunk(b'plst')]), ('list', [fact, titles]),
+                          ('playlist and list', [fact, titles, wave_files.chunk(b'plst')])):
         file = wave_files.wave(wave_files.ima(), *chunks, wrong)
         yield vector(f'a wrong {label} and a wrong header', 0, 0, 9, file)
         yield vector(f'a wrong {label} and a wrong header of a block', 1, 0, 9, file)
@@ -328,6 +331,13 @@ def places():
     cue, plst = wave_files.cue(wave_files.point(7, 0)), wave_files.plst(wave_files.entry(7, 5))
     file = wave_files.wave(wave_files.ima(), cue, wave_files.fact(5), plst, sound['IMA'][1])
     yield from both('a cue and a playlist', file)
+    titles = wave_files.adtl(wave_files.labl(7, b'Song'), wave_files.note(7, b'data'))
+    # No room is lent for titles, and none is asked for.
+    tables = [cue, wave_files.fact(5), plst]
+    for label, chunks in (('before all others', [titles, wave_files.fmt(), cue, sound['16 bits'][1]]),
+                          ('behind the tables', [wave_files.ima(), *tables, titles, sound['IMA'][1]]),
+                          ('behind the sound', [wave_files.microsoft(), *tables, sound['Microsoft'][1], titles])):
+        yield from both(f'a list of titles {label}', wave_files.wave(*chunks))
     yield whole('a pad that is not 0', wave_files.wave(wave_files.fmt(bits=8), sound['8 bits'][1][:-1] + b'\xff', junk))
     yield whole('the example of document 01', wave_files.example())
 

@@ -69,9 +69,23 @@ def plst(*entries, count=None, more=b''):
     return chunk(b'plst', struct.pack('<I', len(entries) if count is None else count) + b''.join(entries) + more)
 
 
-def labelled(label, file):
-    """A file as `vectors` takes it."""
-    return struct.pack('<H', len(label)) + label.encode() + struct.pack('<I', len(file)) + file
+def labl(name, text, end=b'\0', code=b'labl'):
+    """A title of a cue; what closes its text is no zero where something else is said."""
+    return chunk(code, struct.pack('<I', name) + text + end)
+
+
+def note(name, text, end=b'\0'):
+    return labl(name, text, end, b'note')
+
+
+def adtl(*chunks, more=b'', size=None):
+    """A list of titles; size is what its header says, where that is not its length."""
+    return chunk(b'LIST', b'adtl' + b''.join(chunks) + more, size)
+
+
+def bare(made):
+    """An odd chunk without its pad."""
+    return made[:-1]
 
 
 def pcm(frames=4, bits=16, channels=1, rate=8000):
@@ -202,7 +216,12 @@ def letters():
              ('plst', lambda code: wave(fmt(), cue(point(7, 0)), chunk(code, plays), data()), EXAMPLE[:2]),
              ('LIST', lambda code: wave(fmt(), chunk(code, b'wavl'), data()), pcm()),
              ('wavl', lambda code: wave(fmt(), chunk(b'LIST', code), data()), pcm()),
-             ('data in a cue', lambda code: wave(fmt(), cue(point(7, 0, code=code)), data()), refused(12))]
+             ('data in a cue', lambda code: wave(fmt(), cue(point(7, 0, code=code)), data()), refused(12)),
+             # These titles name no cue, so that they are wrong where they are titles.
+             ('LIST of titles', lambda code: wave(fmt(), chunk(code, b'adtl' + labl(7, b'a')), data()), pcm()),
+             ('adtl', lambda code: wave(fmt(), chunk(b'LIST', code + labl(7, b'a')), data()), pcm()),
+             ('labl', lambda code: wave(fmt(), adtl(labl(7, b'a', code=code)), data()), pcm()),
+             ('note', lambda code: wave(fmt(), adtl(labl(7, b'a', code=code)), data()), pcm())]
     for label, file, expected in codes:
         for other in nearly(label[:4].encode()):
             yield f'{other.decode()!r} for {label}', file(other), expected
@@ -390,12 +409,271 @@ def playlists():
     yield 'the largest count of entries', wave(fmt(), one, plst(entry(7, 1), count=2**32 - 1), data()), refused(13)
 
 
+# ---- lists of titles: beside each file its titles, as (kind, name, text before its zero), or the refusal; and what is
+# listed of it, where that is something else than LISTED
+
+# The cues of most of these files, and what is listed of such a file.
+CUES = [point(7, 0), point(8, 3)]
+LISTED = pcm() + ['cue 7 at 0', 'cue 8 at 3']
+# Texts as long as they may be, and a byte longer.
+LONG, LONGER = bytes(1 + place % 255 for place in range(255)), bytes(1 + place % 255 for place in range(256))
+SONG = labl(7, b'Song')
+
+
+def titled(*chunks, **more):
+    """A file with a list of these chunks."""
+    return wave(fmt(), cue(*CUES), adtl(*chunks, **more), data())
+
+
+def last(*chunks, **more):
+    """The same with the list at the file's end."""
+    return wave(fmt(), cue(*CUES), data(), adtl(*chunks, **more))
+
+
+def last_bare(*chunks, **more):
+    """The same without the list's own pad."""
+    return unpadded(fmt(), cue(*CUES), data(), adtl(*chunks, **more))
+
+
+def titles_of_cues():
+    """Labels and notes of cues."""
+    yield 'no list', wave(fmt(), cue(*CUES), data()), []
+    yield 'a label', titled(SONG), [(0, 7, b'Song')]
+    yield 'a note', titled(note(7, b'By heart')), [(1, 7, b'By heart')]
+    yield 'a label and a note of one cue', titled(SONG, note(7, b'Song')), [(0, 7, b'Song'), (1, 7, b'Song')]
+    yield 'a note and a label of one cue', titled(note(7, b'x'), SONG), [(1, 7, b'x'), (0, 7, b'Song')]
+    yield 'the last cue first', titled(labl(8, b'Two'), labl(7, b'One')), [(0, 8, b'Two'), (0, 7, b'One')]
+    yield 'labels and notes in any order', titled(note(8, b'd'), labl(7, b'aa'), labl(8, b'bbb'), note(7, b'cccc')), \
+        [(1, 8, b'd'), (0, 7, b'aa'), (0, 8, b'bbb'), (1, 7, b'cccc')]
+    yield 'one text for two cues', titled(labl(7, b'Song'), labl(8, b'Song')), [(0, 7, b'Song'), (0, 8, b'Song')]
+    yield 'two labels of one cue', titled(SONG, labl(7, b'Other')), 21
+    yield 'one label twice', titled(SONG, SONG), 21
+    yield 'two labels of one cue, others between', titled(SONG, note(7, b'x'), labl(8, b'y'), SONG), 21
+    yield 'two notes of one cue', titled(note(8, b'a'), note(8, b'b')), 21
+    yield 'two notes of one cue, a label between', titled(note(7, b'a'), SONG, note(7, b'a')), 21
+    yield 'two labels of a name that no cue has', titled(labl(9, b'a'), labl(9, b'a')), 21
+    yield 'a label of a name that no cue has', titled(labl(9, b'Song')), 21
+    yield 'a note of a name that no cue has', titled(SONG, note(6, b'Song')), 21
+    yield 'a label of 0, as in a cue table of zeros', titled(labl(0, b'Song')), 21
+    yield 'a name that differs in the highest byte', titled(labl(7 + 2**24, b'Song')), 21
+    yield 'a label without a cue table', wave(fmt(), adtl(SONG), data()), 21
+    yield 'a label and a cue table of count 0', wave(fmt(), cue(), adtl(SONG), data()), 21
+    yield 'labels of 0 and of the largest name', \
+        wave(fmt(), cue(point(0, 0), point(2**32 - 1, 0)), adtl(labl(0, b'a'), labl(2**32 - 1, b'b')), data()), \
+        [(0, 0, b'a'), (0, 2**32 - 1, b'b')], pcm() + ['cue 0 at 0', f'cue {2**32 - 1} at 0']
+
+
+def texts():
+    """How long a title is, and its zero."""
+    for code in (b'labl', b'note'):
+        kind, name = (0, 'label') if code == b'labl' else (1, 'note')
+        yield f'a {name} of no bytes', titled(chunk(code)), 21
+        yield f'a {name} of 3 bytes', titled(chunk(code, b'\7\0\0')), 21
+        yield f'a {name} of 4 bytes, which have a zero last', titled(labl(7, b'', b'', code)), 21
+        yield f'a {name} of 5 bytes', titled(labl(7, b'', code=code)), [(kind, 7, b'')]
+        yield f'a {name} of 5 bytes without zero', titled(labl(7, b'a', b'', code)), 21
+        yield f'a {name} of 6 bytes', titled(labl(7, b'a', code=code)), [(kind, 7, b'a')]
+        yield f'a {name} of 259 bytes', titled(labl(7, LONG[:254], code=code)), [(kind, 7, LONG[:254])]
+        yield f'a {name} of 260 bytes', titled(labl(7, LONG, code=code)), [(kind, 7, LONG)]
+        yield f'a {name} of 260 bytes without zero', titled(labl(7, LONGER, b'', code)), 21
+        yield f'a {name} of 261 bytes', titled(labl(7, LONGER, code=code)), 21
+        yield f'a {name} of 261 bytes, zero in its 260th', titled(labl(7, LONG, b'\0x', code)), 21
+        yield f'a {name} of 261 bytes, zeros in its last two', titled(labl(7, LONG, b'\0\0', code)), 21
+    yield 'a label of 262 bytes', titled(labl(7, LONGER + b'a')), 21
+    yield 'a label of 516 bytes, which is 260 and 256', titled(labl(7, LONGER + LONG)), 21
+    yield 'a zero inside', titled(labl(7, b'So\0ng')), 21
+    yield 'a zero at the start', titled(labl(7, b'\0Song')), 21
+    yield 'two zeros at the end', titled(labl(7, b'Song\0')), 21
+    yield 'two zeros and no more', titled(labl(7, b'\0')), 21
+    yield 'a zero inside and none at the end', titled(labl(7, b'So\0ng', b'')), 21
+    yield 'no zero but the pad', titled(labl(7, b'Son', b'')), 21
+    yield 'a pad that is not zero', titled(bare(SONG) + b'x', note(7, b'abc')), [(0, 7, b'Song'), (1, 7, b'abc')]
+    yield 'a pad that is not zero, of a text without zero', titled(bare(labl(7, b'Son', b'')) + b'\xff'), 21
+    yield 'bytes of any kind', titled(labl(7, b'\xff\x01\n\x80"')), [(0, 7, b'\xff\x01\n\x80"')]
+    yield 'the second title without zero', titled(SONG, labl(8, b'Son', b'g')), 21
+    yield 'a text that looks like chunks', titled(labl(7, b'labl\x06note')), [(0, 7, b'labl\x06note')]
+
+
+def many_titles(*more):
+    """A file with 64 cues, a label and a note of each, and more chunks in the list."""
+    names = range(100, 164)
+    found = [made(name, bytes([name])) for name in names for made in (labl, note)]
+    return wave(fmt(), cue(*[point(name, name % 4) for name in names]), adtl(*found, *more), data())
+
+
+def counts():
+    """At most 128 titles: a label and a note of each of 64 cues."""
+    both = [(kind, name, bytes([name])) for name in range(100, 164) for kind in (0, 1)]
+    listed = pcm() + [f'cue {name} at {name % 4}' for name in range(100, 164)]
+    yield '128 titles', many_titles(), both, listed
+    yield '128 titles and a chunk that is skipped', many_titles(chunk(b'ltxt', bytes(20))), both, listed
+    yield '128 titles and a label of no cue', many_titles(labl(7, b'a')), 21
+    yield '129 titles, the first again', many_titles(labl(100, b'd')), 21
+    yield '129 titles, the last again', many_titles(note(163, b'x')), 21
+
+
+def inner_walk():
+    """The chunks of a list tile it from its fourth byte on."""
+    yield 'a list of 4 bytes', titled(), []
+    yield 'a list of 4 bytes, no cues', wave(fmt(), adtl(), data()), [], pcm()
+    yield 'a list of 4 bytes that ends the file', last(), []
+    for more in (1, 2, 4, 7):
+        yield f'a list of {more} bytes more than its letters', titled(more=bytes(more)), 21
+        yield f'{more} bytes after the last title', titled(SONG, more=b'ltxt\0\0\0\0'[:more]), 21
+    yield 'a chunk of eight bytes after the last title', titled(SONG, chunk(b'ltxt')), [(0, 7, b'Song')]
+    yield 'a chunk of eight zeros', titled(bytes(8), SONG), [(0, 7, b'Song')]
+    even = labl(7, b'Tune!')
+    for size in (11, 12, 2**31, 2**32 - 8, 2**32 - 1):
+        yield f'the last title of 10 bytes says {size}', titled(even[:4] + struct.pack('<I', size) + even[8:]), 21
+        yield f'a last chunk of 2 bytes says {size}', titled(SONG, chunk(b'ltxt', b'ab', size)), 21
+    # The zero that it lacks is the first byte of the chunk behind the list.
+    yield 'a title that ends one byte past the list', \
+        wave(fmt(), cue(*CUES), adtl(chunk(b'labl', SONG[8:16], 9)), chunk(b'\0abc'), data()), 21
+    yield 'a list that takes in the chunk behind it', \
+        wave(fmt(), cue(*CUES), adtl(SONG, size=30), chunk(b'junk'), data()), [(0, 7, b'Song')]
+    yield 'the first title says two bytes less', titled(chunk(b'labl', even[8:], 8), note(7, b'x')), 21
+    yield 'a chunk that takes a title in', titled(chunk(b'ltxt', even[8:], 24), note(7, b'x')), []
+
+
+def inner_pads():
+    """An odd chunk of a list has its pad there; only where the list ends the file without its own may the last lack
+    it."""
+    found, odd = [(0, 7, b'Song')], chunk(b'ltxt', b'abc')
+    yield 'the last title without pad, the list in the middle', titled(bare(SONG)), 21
+    yield 'the last title without pad, the list with its own at the end', last(bare(SONG)), 21
+    yield 'the last title without pad, nor the list, at the end', last_bare(bare(SONG)), found
+    yield 'the last title with pad, at the end', last(SONG), found
+    yield 'a skipped chunk without pad, the list in the middle', titled(SONG, bare(odd)), 21
+    yield 'a skipped chunk without pad, the list with its own at the end', last(SONG, bare(odd)), 21
+    yield 'a skipped chunk without pad, nor the list, at the end', last_bare(SONG, bare(odd)), found
+    yield 'a skipped chunk with pad, at the end', last(SONG, odd), found
+    # The first byte of the next chunk is taken for the pad.
+    yield 'the first title without pad', titled(bare(SONG), note(7, b'x')), 21
+    yield 'the first title without pad, nor the list, at the end', last_bare(bare(SONG), note(7, b'x')), 21
+    yield 'an even title and a byte more, the list without pad at the end', last_bare(note(7, b'x'), more=b'\0'), 21
+    yield 'a list of 5 bytes without pad at the end', last_bare(more=b'\0'), 21
+    yield 'a label of 259 bytes without pad, at the end', last_bare(bare(labl(7, LONG[:254]))), [(0, 7, LONG[:254])]
+    yield 'a label of 261 bytes without pad, at the end', last_bare(bare(labl(7, LONGER))), 21
+    yield 'the shortest label without pad, at the end', last_bare(bare(labl(7, b''))), [(0, 7, b'')]
+    yield 'a label of 4 bytes and an odd chunk without pad, at the end', last_bare(labl(7, b'', b''), bare(odd)), 21
+    yield 'a label that counts its absent pad, at the end', last_bare(bare(chunk(b'labl', SONG[8:-1], 10))), 21
+
+
+def skipped_in_lists():
+    """Other chunks in a list: only their sizes count."""
+    found = [(0, 7, b'Song')]
+    for size in (0, 1, 4, 5, 20, 260, 261, 600):
+        yield f'a chunk of {size} bytes before a label', titled(chunk(b'ltxt', b'\xee' * size), SONG), found
+    for code in (b'file', b'LABL', b'labL', b'Note', b'rgn ', b'\0\0\0\0'):
+        yield f'{code.decode()!r} in a list', titled(SONG, labl(7, b'a\0b', b'', code)), found
+    for made in (fmt(), data(), cue(point(7, 0)), plst(), fact(1), adtl(SONG), chunk(b'LIST', b'wavl')):
+        yield f'{made[:4].decode()!r} of {len(made)} bytes in a list', titled(made, SONG), found
+    yield 'a list of nothing but skipped chunks', titled(chunk(b'ltxt', b'abc'), chunk(b'file')), []
+    yield 'skipped chunks between titles', titled(SONG, chunk(b'file', b'abc'), note(8, b'x'), chunk(b'ltxt')), \
+        [*found, (1, 8, b'x')]
+
+
+def other_lists():
+    """A second list of titles, and lists that are none."""
+    cues, found = cue(*CUES), [(0, 7, b'Song')]
+    info = chunk(b'LIST', b'INFO' + labl(9, b'a\0'))
+    yield 'two lists', wave(fmt(), cues, adtl(SONG), adtl(note(8, b'x')), data()), 21
+    yield 'two lists, the second of 4 bytes', wave(fmt(), cues, adtl(SONG), data(), adtl()), 21
+    yield 'two lists, the first of 4 bytes', wave(adtl(), fmt(), cues, data(), adtl(SONG)), 21
+    yield 'two lists of 4 bytes', wave(fmt(), adtl(), adtl(), data()), 21
+    yield 'three lists of 4 bytes', wave(fmt(), adtl(), adtl(), data(), adtl()), 21
+    yield 'two lists, the second without its pad', unpadded(fmt(), cues, adtl(SONG), data(), adtl(bare(SONG))), 21
+    yield 'a list of titles and one of INFO', wave(fmt(), cues, info, adtl(SONG), info, data()), found
+    yield 'a list of INFO with titles', wave(fmt(), cues, info, data()), []
+    yield 'LIST of three bytes, adt', wave(fmt(), cues, chunk(b'LIST', b'adt'), adtl(SONG), data()), found
+    yield 'LIST of three bytes, adt, and its pad is l', \
+        wave(fmt(), cues, chunk(b'LIST', b'adt')[:-1] + b'l', adtl(SONG), data()), found
+    yield 'LIST of three bytes, adt, without pad', unpadded(fmt(), cues, adtl(SONG), data(), chunk(b'LIST', b'adt')), \
+        found
+    yield 'LIST of no bytes', wave(fmt(), cues, chunk(b'LIST'), adtl(SONG), data()), found
+    yield 'LIST of ladt', wave(fmt(), cues, chunk(b'LIST', b'ladtl'), data()), []
+    yield 'adtl as a chunk, and titles outside a list', \
+        wave(fmt(), cues, chunk(b'adtl', SONG), labl(9, b'x'), note(9, b'\0'), adtl(SONG), data()), found
+    yield 'chunks list and adtl with wrong titles', wave(fmt(), cues, chunk(b'list', b'adtl?'), chunk(b'adtl', b'?'),
+                                                         data()), []
+
+
+def list_places():
+    """The list may stand anywhere."""
+    cues, found, play = cue(*CUES), [(0, 7, b'Song')], plst(entry(7, 4))
+    yield 'the list before the cue table', wave(fmt(), adtl(SONG), cues, data()), found
+    yield 'the list before all others', wave(adtl(SONG), fmt(), cues, data()), found
+    yield 'the list behind the sound', wave(fmt(), cues, data(), adtl(SONG)), found
+    yield 'the list behind the sound, and the cue table behind it', wave(fmt(), data(), adtl(SONG), cues), found
+    yield 'the list behind odd sound', wave(fmt(bits=8), cues, data(7), adtl(SONG)), found, pcm(7, 8) + LISTED[1:]
+    yield 'the list among skipped chunks', wave(chunk(b'junk', b'a'), fmt(), cues, chunk(b'junk', b'abc'), adtl(SONG),
+                                                chunk(b'junk', b'a'), data()), found
+    yield 'the list behind the playlist', wave(fmt(), cues, play, adtl(SONG), data()), found, LISTED + EXAMPLE[2:]
+    yield 'IMA with a list', wave(ima(), fact(9), cues, adtl(SONG), data(8)), found, adpcm(17, 9) + LISTED[1:]
+    yield 'Microsoft with a list', wave(microsoft(), fact(4), cues, adtl(SONG), data(8)), found, \
+        adpcm(2, 4) + LISTED[1:]
+
+
+def list_orders():
+    """21 comes after 1 to 13: a wrong list beside each other fault."""
+    wrong, cues = adtl(labl(9, b'Song')), cue(*CUES)
+    whole = wave(fmt(), cues, wrong, data())
+    yield 'a wrong list', whole, 21
+    yield 'a wrong list, 11 bytes', whole[:11], 1
+    yield 'a wrong list, RIFX', b'RIFX' + whole[4:], 2
+    yield 'a wrong list, R two too large', wave(fmt(), cues, wrong, data(), size=len(whole) - 6), 3
+    yield 'a wrong list, then data past the end', wave(fmt(), cues, wrong, chunk(b'data', bytes(8), 10)), 4
+    yield 'a wrong list past the end', wave(fmt(), cues, data(), adtl(labl(9, b'Song'), size=99)), 4
+    yield 'a wrong list, then a second fmt', wave(fmt(), cues, wrong, data(), fmt()), 5
+    yield 'two lists, then a second cue table', wave(fmt(), cues, wrong, wrong, data(), cues), 5
+    yield 'a wrong list, then data before fmt', wave(wrong, data(), fmt(), cues), 6
+    yield 'a wrong list, then LIST of wavl', wave(fmt(), cues, wrong, data(), chunk(b'LIST', b'wavl')), 7
+    yield 'a wrong list, no data', wave(fmt(), cues, wrong), 8
+    yield 'a wrong list, no fmt', wave(cues, wrong), 8
+    yield 'a wrong list, rate 0', wave(fmt(rate=0), cues, wrong, data()), 9
+    yield 'a wrong list, half a frame', wave(fmt(), cues, wrong, data(7)), 10
+    yield 'a wrong list, IMA without fact', wave(ima(), cues, wrong, data()), 11
+    yield 'a wrong list, a cue at F', wave(fmt(), cue(point(7, 4)), wrong, data()), 12
+    yield 'a list of the names of a wrong cue table', wave(fmt(), cue(point(7, 0), point(7, 1)), adtl(SONG), data()), 12
+    yield 'a wrong list, a wrong playlist', wave(fmt(), cues, plst(entry(9, 1)), wrong, data()), 13
+    yield 'two lists, a wrong playlist', wave(fmt(), cues, plst(more=b'\0'), adtl(), adtl(), data()), 13
+    yield 'a wrong list before a wrong playlist', wave(fmt(), wrong, data(), cues, plst(entry(7, 5))), 13
+
+
+def title_lists():
+    """Label, file, its titles or its refusal, and what is listed of it."""
+    for group in (titles_of_cues, texts, counts, inner_walk, inner_pads, skipped_in_lists, other_lists, list_places,
+                  list_orders):
+        for label, file, said, *listed in group():
+            yield label, file, said, refused(said) if isinstance(said, int) else listed[0] if listed else LISTED
+
+
+def title_rooms():
+    """Label, file, the bytes that are lent for titles, and the titles or the refusal."""
+    file, found = titled(SONG, note(8, b'A note')), [(0, 7, b'Song'), (1, 8, b'A note')]
+    for room, said in ((0, 14), (5, 14), (11, 14), (12, found), (13, found), (300, found)):
+        yield f'texts of 12 bytes, room {room}', file, room, said
+    for room, said in ((255, 14), (256, [(0, 7, LONG)])):
+        yield f'a text of 256 bytes, room {room}', titled(labl(7, LONG)), room, said
+    for room, said in ((0, 14), (1, [(0, 7, b'')])):
+        yield f'an empty text, room {room}', titled(labl(7, b'')), room, said
+    for label, made in (('no list', wave(fmt(), cue(*CUES), data())), ('a list of 4 bytes', titled()),
+                        ('a list of skipped chunks', titled(chunk(b'ltxt', b'abc')))):
+        for room in (0, 3):
+            yield f'{label}, room {room}', made, room, []
+    for label, made, said in (('a wrong list', titled(labl(9, b'Song')), 21), ('rate 0', wave(fmt(rate=0), data()), 9),
+                              ('a wrong playlist', wave(fmt(), plst(more=b'\0'), data()), 13)):
+        yield f'{label}, room 0', made, 0, said
+
+
 def all_files():
     """Label, bytes and expected lines of each file."""
     yield 'the example of document 01', example(), EXAMPLE
     for group in (lengths_and_codes, the_walk, lost_pads, letters, formats, ima_formats, microsoft_formats, frames,
                   cue_tables, playlists):
         yield from group()
+    for label, file, _, listed in title_lists():
+        yield f'titles: {label}', file, listed
 
 
 def example():

@@ -1,16 +1,19 @@
-"""Records and sounds to write, at the borders of document 01's rules, as `vectors` takes them.
+"""Records, texts and sounds to write, at the borders of the rules of documents 01 and 02, as `vectors` takes them.
 
-Beside each stands its answer, worked out by hand from document 01, and of a few the whole file; the second writer
-must say the same. What `vectors` must print besides is the second writer's.
+Beside each stands its answer, worked out by hand from those, and of a few the whole file; the second writer must say
+the same. What `vectors` must print besides is the second writer's.
 """
 import random
 import struct
 
-from second import writer as second_writer
+from second import reader as second_reader, writer as second_writer
 from second.reader import mixed
 from second.writer import Record, samples_in
 
 MOST = 2**32 - 1
+# The most room that `vectors` has.
+ROOM = 16384
+TABLES = 'cues', 'plays', 'titles'
 IMA, MICROSOFT = 17, 2
 ONE, TWO = [(7, 0, 0)], [(7, 0, 0), (8, 90, 1)]
 
@@ -47,15 +50,17 @@ def sound_of(n):
     return bytes((7 * i + 1) % 251 for i in range(n))
 
 
-def entry(label, record, sound, room):
-    """A record and a sound as `vectors` takes them. The tables stand there as in a file, with as many
-    entries as are given; how many the record counts is said apart."""
+def entry(label, record, texts, sound, room):
+    """A record, the buffer of its texts and a sound as `vectors` takes them. The tables of cues and entries stand there
+    as in a file, and titles as four numbers of four bytes each, as many as are given; how many the record counts is
+    said apart."""
     tag, channels, rate, bits, align, samples = record.form
     cues = second_writer.cue(record._replace(cue_count=len(record.cues)))
     plays = second_writer.plst(record._replace(play_count=len(record.plays)))
+    titles = b''.join(struct.pack('<4I', *title) for title in record.titles)
     words = [len(label), room, len(sound), len(cues), len(plays), tag, channels, bits, align, samples]
-    words += [rate, record.frames, record.cue_count, record.play_count]
-    return struct.pack('<10H4I', *words) + label.encode() + cues + plays + sound
+    words += [len(titles), len(texts), rate, record.frames, record.cue_count, record.play_count, record.title_count]
+    return struct.pack('<12H5I', *words) + label.encode() + cues + plays + titles + texts + sound
 
 
 def answer_lines(answer, room):
@@ -66,26 +71,33 @@ def answer_lines(answer, room):
     return [f'bytes {len(answer)}', shown, f'rest {room - len(answer)} untouched']
 
 
-def vector(label, record, sound, room):
+def vector(label, record, texts, sound, room):
     """The entry, and the lines that `vectors` must print of it."""
-    second_writer.check(record, sound)
-    answer = second_writer.write(record, sound, room)
+    second_writer.check(record, texts, sound)
+    answer = second_writer.write(record, texts, sound, room)
     more = [] if isinstance(answer, int) else ['reads back']
-    return entry(label, record, sound, room), [label, *answer_lines(answer, room), *more]
+    return entry(label, record, texts, sound, room), [label, *answer_lines(answer, room), *more]
 
 
-def writing(label, said, form, sound=8, frames=None, cues=(), plays=(), cue_count=None, play_count=None, room=None):
+def record_with(form, frames, cues, plays, titles, *counts):
+    """A record with these cues, entries and titles, counted as is said or else as many as there are."""
+    made = [cues, plays, titles]
+    counted = [len(table) if count is None else count for table, count in zip(made, counts)]
+    return Record(form, frames, *(part for count, table in zip(counted, made) for part in (count, list(table))))
+
+
+def writing(label, said, form, sound=8, frames=None, cues=(), plays=(), cue_count=None, play_count=None, room=None,
+            titles=(), texts=b'', title_count=None):
     """A vector and the answer that it must have: a refusal's number below 44, else the bytes of the file.
 
     sound is the bytes or how many; the frames are those of whole blocks, and the room is two bytes more than
-    enough, where nothing else is said.
+    enough, where nothing else is said. The texts of the titles stand in a buffer.
     """
     sound = sound_of(sound) if isinstance(sound, int) else sound
     frames = len(sound) // max(form[4], 1) * form[5] if frames is None else frames
-    counts = [len(table) if count is None else count for table, count in ((cues, cue_count), (plays, play_count))]
-    record = Record(form, frames, counts[0], list(cues), counts[1], list(plays))
-    room = len(second_writer.file_of(record, sound)) + 2 if room is None else room
-    made, lines = vector(label, record, sound, room)
+    record = record_with(form, frames, cues, plays, titles, cue_count, play_count, title_count)
+    room = len(second_writer.file_of(record, texts, sound)) + 2 if room is None else room
+    made, lines = vector(label, record, texts, sound, room)
     answer = f'refused {said}' if said < 44 else f'bytes {said}'
     if lines[1] != answer:
         raise ValueError(f'{label}: by hand it is {answer}, the second writer says {lines[1]}')
@@ -106,6 +118,7 @@ def examples():
     often = "'plst' 10000000 01000000 2c010000 01000000 ffffffff"
     data = "'data' 08000000 01080f16 1d242b32"
     odd = "'data' 11000000 01080f16 1d242b32 3940474e 555c636a 71 00"
+    label, note = "'labl' 09000000 07000000 'Song' 00 00", "'note' 08000000 07000000 'abc' 00"
     stored = [
         (writing('8-bit mono, no sound: 44 bytes', 44, pcm(bits=8), 0), '24000000', f"{form8} 'data' 00000000"),
         (writing('8-bit mono, one byte: 46 bytes', 46, pcm(bits=8), 1), '26000000', f"{form8} 'data' 01000000 01 00"),
@@ -116,6 +129,8 @@ def examples():
          '78000000', f'{ima17} {fact} {far} {often} {data}'),
         (writing('a Microsoft block of 17 bytes', 108, microsoft(2, 17, rate=22050), 17),
          '64000000', f'{microsoft2} {fact} {odd}'),
+        (writing('a frame with a label and a note', 128, pcm(), 2, cues=ONE, **row((0, 7, b'Song'), (1, 7, b'abc'))),
+         '78000000', f"{form16} {cue} 'LIST' 26000000 'adtl' {label} {note} 'data' 02000000 0108"),
     ]
     for (made, lines), size, rest in stored:
         if lines[2] != 'file' + hexed(spelled(f"'RIFF' {size} 'WAVE' 'fmt ' {rest}")):
@@ -211,6 +226,123 @@ def junk():
     yield writing('junk in the 64th place', 52 + 12 + 24 * 63, pcm(), cues=tables(63, 4)[0] + [(7, 0, 4)], cue_count=63)
     yield writing('IMA, junk past both', 128, ima(), cues=ONE + bad, plays=[(7, 9, 1)] + worse, cue_count=1,
                   play_count=1)
+
+
+# ---- titles: a list of them comes behind the tables
+
+def row(*titles):
+    """Titles, each as (kind, name, text), in a row from the start of a buffer, and that buffer."""
+    table, texts = second_reader.placed([(kind, name, text + b'\0') for kind, name, text in titles])
+    return {'titles': table, 'texts': texts}
+
+
+def list_size(*lengths):
+    """How long a list of titles with texts of these lengths is: a head, and for each title a head, a name, the text,
+    its zero, and a pad where they are odd."""
+    return 12 + sum(8 + 4 + n + 1 + (n + 1) % 2 for n in lengths)
+
+
+def titles():
+    """Labels and notes; four frames, and cues 7 and 8."""
+    def titled(label, said, *given, **more):
+        return writing(label, said, pcm(), cues=TWO, **{**row(*given), **more})
+    yield titled('no titles', 112)
+    yield titled('no titles, and a buffer', 112, texts=b'Song\0')
+    for kind, name in ((0, 'label'), (1, 'note')):
+        for length in (0, 1, 4, 254, 255):
+            yield titled(f'a {name} of {length} bytes', 112 + list_size(length), (kind, 7, b'a' * length))
+        yield titled(f'a {name} of 256 bytes', 21, (kind, 7, b'a' * 256))
+    yield titled('a label and a note of one cue', 112 + list_size(4, 3), (0, 7, b'Song'), (1, 7, b'abc'))
+    yield titled('a note and a label of one cue', 112 + list_size(3, 4), (1, 7, b'abc'), (0, 7, b'Song'))
+    yield titled('the last cue first', 112 + list_size(1, 0, 2), (0, 8, b'a'), (0, 7, b''), (1, 8, b'bc'))
+    yield titled('bytes of any kind', 112 + list_size(4), (0, 7, b'\xff\x80\n\x01'))
+    yield titled('bytes past the last text', 112 + list_size(4), (0, 7, b'Song'), texts=b'Song\0more\0')
+    yield titled('zeros past the last text', 112 + list_size(4), (0, 7, b'Song'), texts=b'Song\0\0')
+    yield titled('any titles past the count', 112, (2, 9, b''), (0, 7, b'a'), title_count=0)
+    yield titled('any titles past a label', 112 + list_size(4), title_count=1, texts=b'Song\0',
+                 titles=[(0, 7, 0, 4), (0, 7, 0, 4), (MOST, MOST, MOST, MOST)])
+    for name, form, size, frames, head in of_each_format():
+        long = head + size + size % 2
+        cues, plays = tables(2, frames)
+        yield writing(f'{name}, a cue with a label', long + 36 + list_size(4), form, size, frames, ONE,
+                      **row((0, 7, b'Song')))
+        yield writing(f'{name}, cues, entries and titles', long + 96 + list_size(3, 2), form, size, frames, cues, plays,
+                      **row((1, 999, b'abc'), (0, 1000, b'de')))
+    # The room past the titles that are given is zero: a label of the cue 0, whose text has no byte but its zero.
+    zero = {'cues': [(0, 0, 0)], 'title_count': 1}
+    yield writing('one title counted, none given, and a cue 0', 88 + list_size(0), pcm(), texts=b'\0', **zero)
+    yield writing('one title counted, none given, and a cue 0, no texts', 21, pcm(), **zero)
+    yield titled('one title counted, none given', 21, texts=b'\0', title_count=1)
+    yield titled('two titles counted, one given', 21, (0, 7, b''), texts=b'\0\0', title_count=2)
+
+
+def wrong_titles():
+    """Refusal 21: kinds, names and texts, and where they stand."""
+    def titled(label, said, *given, **more):
+        return writing(label, said, pcm(), cues=TWO, **{**row(*given), **more})
+    for kind in (2, 3, 256, 2**16, MOST):
+        yield titled(f'kind {kind}', 21, (kind, 7, b'Song'))
+    yield titled('kind 2 behind a label', 21, (0, 7, b'Song'), (2, 7, b'Song'))
+    for name in (0, 6, 9, 7 + 2**8, 7 + 2**24, MOST):
+        yield titled(f'a label of {name}, which is no cue', 21, (0, name, b'Song'))
+    yield titled('a note of no cue behind a label', 21, (0, 7, b'Song'), (1, 9, b'Song'))
+    yield writing('a label and no cue', 21, pcm(), **row((0, 7, b'Song')))
+    yield writing('a label of a cue past the count', 21, pcm(), cues=TWO, cue_count=1, **row((0, 8, b'Song')))
+    yield titled('two labels of one cue', 21, (0, 7, b'Song'), (0, 7, b'Other'))
+    yield titled('two notes of one cue, others between', 21, (1, 7, b'a'), (0, 7, b'a'), (0, 8, b'a'), (1, 7, b'a'))
+    yield titled('no zero', 21, titles=[(0, 7, 0, 3)], texts=b'Song\0')
+    yield titled('no zero in the buffer', 21, titles=[(0, 7, 0, 3)], texts=b'Song')
+    yield titled('a zero inside', 21, (0, 7, b'So\0ng'))
+    yield titled('a zero at the start', 21, (0, 7, b'\0Song'))
+    yield titled('two zeros at the end', 21, (0, 7, b'Song\0'))
+    yield titled('a zero inside the second text', 21, (0, 7, b'Song'), (1, 7, b'a\0'))
+    yield titled('a buffer of no bytes', 21, titles=[(0, 7, 0, 0)], texts=b'')
+    yield titled('a buffer one byte too short', 21, titles=[(0, 7, 0, 5)], texts=b'Song\0')
+    yield titled('a buffer that ends before the second text', 21, titles=[(0, 7, 0, 4), (1, 7, 5, 0)], texts=b'Song\0')
+    yield titled('a buffer that ends in the second text', 21, titles=[(0, 7, 0, 4), (1, 7, 5, 2)], texts=b'Song\0x\0')
+    for length in (256, 2**16 + 4, 2**31, MOST):
+        yield titled(f'length {length}', 21, titles=[(0, 7, 0, length)], texts=b'Song\0')
+    for start in (1, 5, 2**16, MOST):
+        yield titled(f'the first text at {start}', 21, titles=[(0, 7, start, 4)], texts=b'xSong\0')
+    yield titled('the first text at 1, and its zero', 21, titles=[(0, 7, 1, 4)], texts=b'\0Song\0')
+    for start in (0, 4, 6, 2**32 - 1):
+        yield titled(f'the second text at {start}, not at 5', 21, titles=[(0, 7, 0, 4), (1, 7, start, 4)],
+                     texts=b'Song\0Song\0Song\0')
+    yield titled('texts in another order', 21, titles=[(0, 7, 5, 3), (1, 7, 0, 4)], texts=b'Song\0abc\0')
+    yield titled('one text for two titles', 21, titles=[(0, 7, 0, 4), (0, 8, 0, 4)], texts=b'Song\0')
+
+
+def long_lists():
+    """128 titles, and more that are counted."""
+    cues = [(name, 0, name % 4) for name in range(64)]
+    both = row(*[(kind, name, b'a' * (name % 5)) for kind in (1, 0) for name in range(64)])
+    size = 52 + 12 + 24 * 64 + list_size(*[name % 5 for _ in range(2) for name in range(64)])
+    yield writing('128 titles', size, pcm(), cues=cues, **both)
+    long = row(*[(0, name, b'a' * 255) for name in range(12)])
+    yield writing('12 long texts', 1600 + list_size(*[255] * 12), pcm(), cues=cues, **long)
+    yield writing('129 titles counted', 21, pcm(), cues=cues, title_count=129, **both)
+    for count in (129, 2**8, 2**16, MOST):
+        yield writing(f'{count} titles counted, one given', 21, pcm(), cues=ONE, title_count=count,
+                      **row((0, 7, b'Song')))
+    yield writing('the 128th title a label again', 21, pcm(), cues=cues,
+                  **row(*[(kind, name, b'a') for kind in (1, 0) for name in range(64)][:127], (0, 0, b'a')))
+
+
+def title_rooms():
+    """Refusal 14, and 21 and the others before it."""
+    good, wrong, need = row((0, 7, b'Song')), row((0, 9, b'Song')), 88 + list_size(4)
+    for room in (0, 88, need - 1, need, need + 5):
+        said = need if room >= need else 14
+        yield writing(f'a label, room {room} of {need}', said, pcm(), cues=ONE, room=room, **good)
+    for room in (0, 43, need - 1):
+        yield writing(f'a label of no cue, room {room}', 21, pcm(), cues=ONE, room=room, **wrong)
+    yield writing('a label of no cue, and a wrong entry', 13, pcm(), cues=ONE, plays=[(7, 5, 1)], **wrong)
+    yield writing('129 titles, and 65 entries', 13, pcm(), cues=ONE, play_count=65, title_count=129)
+    yield writing('a label of a cue at F', 12, pcm(), cues=[(7, 0, 4)], **good)
+    yield writing('two labels of two cues of one name', 12, pcm(), cues=ONE * 2, **row((0, 7, b'a'), (0, 7, b'b')))
+    yield writing('a label of no cue, and wrong frames', 11, pcm(), 8, 5, ONE, **wrong)
+    yield writing('a label of no cue, and half a frame', 10, pcm(), 7, 3, ONE, **wrong)
+    yield writing('a label of no cue, and rate 0', 9, pcm(rate=0), cues=ONE, **wrong)
 
 
 def wrong_formats():
@@ -405,11 +537,23 @@ def orders():
 
 def all_vectors():
     return [*examples(), *formats(), *lengths(), *averages(), *long_tables(), *junk(), *wrong_formats(),
-            *wrong_blocks(), *wrong_lengths(), *wrong_frames(), *wrong_cues(), *wrong_plays(), *rooms(), *orders()]
+            *wrong_blocks(), *wrong_lengths(), *wrong_frames(), *wrong_cues(), *wrong_plays(), *rooms(), *orders(),
+            *titles(), *wrong_titles(), *long_lists(), *title_rooms()]
+
+
+def some_titles(chance, names):
+    """Labels and notes of some of these cues, and a buffer of their texts; now and then with more behind them."""
+    most = [(kind, name) for kind in (0, 1) for name in names]
+    lengths = [0, 1, 2, 3, 9, chance.randrange(256), 254, 255]
+    found = [(kind, name, bytes(chance.choices(range(1, 256), k=chance.choice(lengths))))
+             for kind, name in chance.sample(most, min(chance.choice([0, 0, 1, 2, 5, 128]), len(most)))]
+    # As many as there is room for in the program's buffers.
+    made = row(*found[:40])
+    return made['titles'], made['texts'] + chance.choice([b'', b'', b'\0', b'more\0'])
 
 
 def some_record(chance):
-    """A record and its sound; good ones, and ones with a fault or two."""
+    """A record, its texts and its sound; good ones, and ones with a fault or two."""
     tag, channels = chance.choice([1, 1, IMA, MICROSOFT]), chance.choice([1, 2])
     if tag == 1:
         form = pcm(channels, chance.choice([8, 16]), chance.randint(1, 192000))
@@ -425,35 +569,47 @@ def some_record(chance):
     cues = [(name, chance.choice([0, chance.randint(0, MOST)]), chance.randrange(frames)) for name in names]
     played = chance.choices(cues, k=chance.choice([0, 1, 3, 9, 64])) if cues else []
     plays = [(name, chance.choice([1, frames - place]), chance.choice([1, 2, MOST])) for name, _, place in played]
-    record = Record(form, frames, len(cues), cues, len(plays), plays)
-    return damaged(record, sound, chance) if chance.random() < 0.5 else (record, sound)
+    titles, texts = some_titles(chance, [name for name, _, _ in cues])
+    record = Record(form, frames, len(cues), cues, len(plays), plays, len(titles), titles)
+    return damaged(record, texts, sound, chance) if chance.random() < 0.5 else (record, texts, sound)
 
 
-def damaged(record, sound, chance):
-    """The record or the sound with one thing changed, which may leave it good."""
+def damaged_texts(texts, chance):
+    """A buffer of texts that is shorter or longer, or has a byte of another value."""
+    if not texts or chance.random() < 0.3:
+        return chance.choice([texts[:-1], texts[1:], b'\0' + texts, b''])
+    at = chance.randrange(len(texts))
+    return texts[:at] + bytes([chance.choice([0, 1, 97])]) + texts[at + 1:]
+
+
+def damaged(record, texts, sound, chance):
+    """The record, the texts or the sound with one thing changed, which may leave it good."""
     def near(value, most=MOST):
         return chance.choice([value + 1, value - 1, 0, 1, most, chance.randint(0, most)]) % (most + 1)
 
-    field = chance.choice([*Record._fields, 'sound'])
+    field = chance.choice([*Record._fields, 'titles', 'titles', 'texts', 'sound'])
     if field == 'sound':
-        return record, chance.choice([sound[:-1], sound + b'\1'])
+        return record, texts, chance.choice([sound[:-1], sound + b'\1'])
+    if field == 'texts':
+        return record, damaged_texts(texts, chance), sound
     value = getattr(record, field)
     if field == 'form':
         at = chance.randrange(6)
         value = (*value[:at], near(value[at], MOST if at == 2 else 65535), *value[at + 1:])
-    elif field in ('cues', 'plays') and value:
-        one, at = chance.randrange(len(value)), chance.randrange(3)
+    elif field in TABLES and value:
+        one, at = chance.randrange(len(value)), chance.randrange(len(value[0]))
         other = chance.choice([near(value[one][at]), chance.choice(value)[at]])
         value = [*value[:one], (*value[one][:at], other, *value[one][at + 1:]), *value[one + 1:]]
-    elif field not in ('cues', 'plays'):
-        value = chance.choice([near(value), 64, 65])
-    return record._replace(**{field: value}), sound
+    elif field not in TABLES:
+        value = chance.choice([near(value), 64, 65, 128, 129])
+    return record._replace(**{field: value}), texts, sound
 
 
 def many(count, seed):
     """So many records, the same for the same seed; now and then the room is one byte short or there is none."""
     chance = random.Random(seed)
     for place in range(count):
-        record, sound = some_record(chance)
-        need = len(second_writer.file_of(record, sound))
-        yield vector(str(place), record, sound, max(need + chance.choice([0, 0, 0, 0, 1, 100, -1, -need]), 0))
+        record, texts, sound = some_record(chance)
+        need = len(second_writer.file_of(record, texts, sound))
+        room = max(need + chance.choice([0, 0, 0, 0, 1, 100, -1, -need]), 0)
+        yield vector(str(place), record, texts, sound, min(room, ROOM))
