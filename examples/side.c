@@ -72,7 +72,8 @@ static void judge(const char *name, uint32_t refusal)
 static struct bytes new_side(const char *name, struct bytes song)
 {
     uint32_t record[TRONALHET_RECORD_WORDS];
-    judge(name, tronalhet_read(song.at, song.count, record, TRONALHET_RECORD_WORDS));
+    uint8_t titles[TRONALHET_MOST_TITLE_BYTES];
+    judge(name, tronalhet_read(song.at, song.count, record, TRONALHET_RECORD_WORDS, titles, sizeof titles));
     struct bytes side = room_for(TRONALHET_EMPTY_BYTES);
     uint16_t channels = (uint16_t)record[TRONALHET_CHANNELS];
     judge(name, tronalhet_empty(channels, record[TRONALHET_RATE], side.at, side.count).refusal);
@@ -95,7 +96,8 @@ static struct bytes add_song(struct bytes side, const char *name, struct bytes s
 static void print_songs(struct bytes side)
 {
     uint32_t record[TRONALHET_RECORD_WORDS];
-    judge("side", tronalhet_read(side.at, side.count, record, TRONALHET_RECORD_WORDS));
+    uint8_t titles[TRONALHET_MOST_TITLE_BYTES];
+    judge("side", tronalhet_read(side.at, side.count, record, TRONALHET_RECORD_WORDS, titles, sizeof titles));
     for (uint32_t i = 0; i < record[TRONALHET_CUES]; i++) {
         const uint32_t *cue = record + TRONALHET_FIRST_CUE + TRONALHET_CUE_WORDS * i;
         const uint32_t *entry = record + TRONALHET_FIRST_ENTRY + TRONALHET_ENTRY_WORDS * i;

@@ -51,7 +51,8 @@ enum tronalhet_refusal {
     TRONALHET_NO_PLACE_ON_SIDE = 17,        /* 64 songs, or more frames than the limit */
     TRONALHET_ALREADY_LISTED = 18,          /* already listed, same sound: nothing to do */
     TRONALHET_NOT_A_SIDE = 19,              /* not a side */
-    TRONALHET_NO_SUCH_BLOCK = 20            /* no such block */
+    TRONALHET_NO_SUCH_BLOCK = 20,           /* no such block */
+    TRONALHET_TITLES_WRONG = 21             /* a wrong list of titles or title */
 };
 
 /* A record travels as words. These are their places: a later version appends words and moves none. */
@@ -66,7 +67,9 @@ enum tronalhet_refusal {
 #define TRONALHET_ENTRIES 8 /* how many the playlist has */
 #define TRONALHET_FIRST_CUE 9
 #define TRONALHET_FIRST_ENTRY 201
-#define TRONALHET_RECORD_WORDS 393
+#define TRONALHET_TITLES 393 /* how many there are */
+#define TRONALHET_FIRST_TITLE 394
+#define TRONALHET_RECORD_WORDS 906
 
 /* Cue i starts at word TRONALHET_FIRST_CUE + TRONALHET_CUE_WORDS * i, counted from 0. */
 #define TRONALHET_CUE_WORDS 3
@@ -80,8 +83,26 @@ enum tronalhet_refusal {
 #define TRONALHET_ENTRY_LENGTH 1 /* in frames */
 #define TRONALHET_ENTRY_TIMES 2  /* how often it is played */
 
-/* There is room for so many cues and for so many entries; words past the counts are 0. */
+/* Title i starts at word TRONALHET_FIRST_TITLE + TRONALHET_TITLE_WORDS * i. Its text stands in a buffer
+ * beside the record and is closed by a zero. The texts stand there in the order of the file, one after the
+ * other from the start. */
+#define TRONALHET_TITLE_WORDS 4
+#define TRONALHET_TITLE_KIND 0   /* TRONALHET_LABEL or TRONALHET_NOTE */
+#define TRONALHET_TITLE_NAME 1   /* of its cue */
+#define TRONALHET_TITLE_START 2  /* where its text starts in that buffer */
+#define TRONALHET_TITLE_LENGTH 3 /* of its text, in bytes before the zero: 0 to 255 */
+
+/* There is room for so many cues, for so many entries, and for so many titles; words past the counts are
+ * 0. */
 #define TRONALHET_MOST_ENTRIES 64
+#define TRONALHET_MOST_TITLES 128
+
+/* The most bytes of all texts with their zeros: with room for so many, no file's titles are too long. */
+#define TRONALHET_MOST_TITLE_BYTES 32768
+
+/* Kinds of a title. */
+#define TRONALHET_LABEL 0
+#define TRONALHET_NOTE 1
 
 /* Tags. */
 #define TRONALHET_PCM 1
@@ -100,17 +121,22 @@ typedef struct {
     size_t n;       /* bytes of the blocks */
 } tronalhet_coded;
 
-/* The record of a file. 14, after the reader's refusals, where there is no room for its words. */
-uint32_t tronalhet_read(const uint8_t *file, size_t file_bytes, uint32_t *record, size_t record_words);
+/* The record of a file, and the texts of its titles. 14, after the reader's refusals, where there is no room
+ * for its words or for the texts; then both are as they were. No other function needs room for texts. */
+uint32_t tronalhet_read(const uint8_t *file, size_t file_bytes, uint32_t *record, size_t record_words,
+                        uint8_t *titles, size_t title_bytes);
 
 /* Where a file's sound starts, in start[0], and how many bytes it has, in n. 14, after the reader's
  * refusals, where start has no element. */
 tronalhet_answer tronalhet_sound(const uint8_t *file, size_t file_bytes, size_t *start, size_t starts);
 
-/* Writes a file of a record and its sound; n is the bytes of the file. A record of fewer than 393 words
- * is 9, and a word that does not fit its field is refused by the rule that it breaks. */
-tronalhet_answer tronalhet_write(const uint32_t *record, size_t record_words, const uint8_t *sound,
-                                 size_t sound_bytes, uint8_t *out, size_t out_bytes);
+/* Writes a file of a record, the texts of its titles and its sound; n is the bytes of the file. A record of
+ * fewer than 906 words is 9, and a word that does not fit its field is refused by the rule that it breaks: 21
+ * for titles that are not as tronalhet_read gives them. Bytes of titles past the last text are no part of
+ * it. */
+tronalhet_answer tronalhet_write(const uint32_t *record, size_t record_words, const uint8_t *titles,
+                                 size_t title_bytes, const uint8_t *sound, size_t sound_bytes, uint8_t *out,
+                                 size_t out_bytes);
 
 /* Decodes a whole file to 16-bit samples, the channels in turn; n is the frames. */
 tronalhet_answer tronalhet_decode(const uint8_t *file, size_t file_bytes, int16_t *out, size_t out_samples);
@@ -129,7 +155,8 @@ tronalhet_coded tronalhet_encode(const int16_t *sound, size_t sound_samples, uin
 tronalhet_answer tronalhet_empty(uint16_t channels, uint32_t rate, uint8_t *out, size_t out_bytes);
 
 /* Writes a side with one song more; n is the bytes of the new side, at most
- * side_bytes + song_bytes + TRONALHET_ADDED_BYTES. limit is the most frames of a side. */
+ * side_bytes + song_bytes + TRONALHET_ADDED_BYTES. limit is the most frames of a side. The side keeps its
+ * titles and takes none of the song's. */
 #define TRONALHET_ADDED_BYTES 16
 tronalhet_answer tronalhet_add(const uint8_t *side, size_t side_bytes, const uint8_t *song, size_t song_bytes,
                                uint32_t number, uint32_t limit, uint8_t *out, size_t out_bytes);

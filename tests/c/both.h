@@ -7,9 +7,10 @@
 
 struct functions {
     const char *name;
-    uint32_t (*read)(const uint8_t *, size_t, uint32_t *, size_t);
+    uint32_t (*read)(const uint8_t *, size_t, uint32_t *, size_t, uint8_t *, size_t);
     tronalhet_answer (*sound)(const uint8_t *, size_t, size_t *, size_t);
-    tronalhet_answer (*write)(const uint32_t *, size_t, const uint8_t *, size_t, uint8_t *, size_t);
+    tronalhet_answer (*write)(const uint32_t *, size_t, const uint8_t *, size_t, const uint8_t *, size_t,
+                              uint8_t *, size_t);
     tronalhet_answer (*decode)(const uint8_t *, size_t, int16_t *, size_t);
     tronalhet_answer (*decode_block)(const uint8_t *, size_t, uint32_t, int16_t *, size_t);
     tronalhet_coded (*encode)(const int16_t *, size_t, uint16_t, uint16_t, uint8_t *, size_t);

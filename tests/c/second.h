@@ -5,12 +5,14 @@
 
 #include "tronalhet.h"
 
-uint32_t second_read(const uint8_t *file, size_t file_bytes, uint32_t *record, size_t record_words);
+uint32_t second_read(const uint8_t *file, size_t file_bytes, uint32_t *record, size_t record_words,
+                     uint8_t *titles, size_t title_bytes);
 
 tronalhet_answer second_sound(const uint8_t *file, size_t file_bytes, size_t *start, size_t starts);
 
-tronalhet_answer second_write(const uint32_t *record, size_t record_words, const uint8_t *sound,
-                              size_t sound_bytes, uint8_t *out, size_t out_bytes);
+tronalhet_answer second_write(const uint32_t *record, size_t record_words, const uint8_t *titles,
+                              size_t title_bytes, const uint8_t *sound, size_t sound_bytes, uint8_t *out,
+                              size_t out_bytes);
 
 tronalhet_answer second_decode(const uint8_t *file, size_t file_bytes, int16_t *out, size_t out_samples);
 

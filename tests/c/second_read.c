@@ -1,22 +1,20 @@
-/* Reading: the checks of a file in the order of document 01, its record, and where its sound stands. */
+/* Reading: the checks of a file in the order of documents 01 and 02, its record, the texts of its titles, and
+ * where its sound stands. */
 #include "second.h"
 #include "second_parts.h"
 
 #include <string.h>
 
-/* The chunks that a file may have once. */
+/* The chunks that a file may have once; more than one list of titles counts only after 13. */
 struct chunks {
     struct part format;
     struct part data;
     struct part fact;
     struct part cue;
     struct part playlist;
+    struct part titles;
+    bool more_titles;
 };
-
-static bool is_code(const uint8_t *at, const char *code)
-{
-    return memcmp(at, code, 4) == 0;
-}
 
 /* Refusals 1, 2 and 3. */
 static uint32_t start_refusal(const uint8_t *file, size_t file_bytes)
@@ -46,6 +44,13 @@ static struct part *chunk_with_code(struct chunks *chunks, const uint8_t *code)
     return NULL;
 }
 
+static void take_titles(struct chunks *chunks, struct part list)
+{
+    if (chunks->titles.there)
+        chunks->more_titles = true;
+    chunks->titles = list;
+}
+
 /* One step of the walk: refusals 4, 5, 6 and 7 of the chunk at *place, which then moves behind it, and past the
  * end where the last pad is absent. */
 static uint32_t take_chunk(const uint8_t *file, size_t file_bytes, size_t *place, struct chunks *chunks)
@@ -64,8 +69,11 @@ static uint32_t take_chunk(const uint8_t *file, size_t file_bytes, size_t *place
         return 6;
     if (is_code(chunk, "LIST") && size >= 4 && is_code(chunk + 8, "wavl"))
         return 7;
+    struct part data = {true, chunk + 8, size};
     if (known != NULL)
-        *known = (struct part){true, chunk + 8, size};
+        *known = data;
+    if (is_code(chunk, "LIST") && size >= 4 && is_code(chunk + 8, "adtl"))
+        take_titles(chunks, data);
     *place += 8 + size + size % 2;
     return 0;
 }
@@ -177,8 +185,8 @@ static bool read_entries(struct part table, struct record *record)
     return entries_are_right(record);
 }
 
-/* Refusals 8 to 13 by number. */
-static uint32_t read_chunks(const struct chunks *chunks, struct record *record)
+/* Refusals 8 to 13 by number, then 21. */
+static uint32_t read_chunks(const struct chunks *chunks, const uint8_t *end, struct record *record)
 {
     if (!chunks->format.there || !chunks->data.there)
         return 8;
@@ -192,6 +200,9 @@ static uint32_t read_chunks(const struct chunks *chunks, struct record *record)
         return 12;
     if (!read_entries(chunks->playlist, record))
         return 13;
+    bool ends_file = chunks->titles.there && chunks->titles.at + chunks->titles.bytes == end;
+    if (chunks->more_titles || !read_titles(chunks->titles, ends_file, record))
+        return 21;
     return 0;
 }
 
@@ -199,25 +210,40 @@ uint32_t second_open(const uint8_t *file, size_t file_bytes, struct record *reco
 {
     struct chunks chunks;
     memset(&chunks, 0, sizeof chunks);
-    memset(record, 0, sizeof *record);
+    clear_record(record);
     uint32_t refusal = start_refusal(file, file_bytes);
     size_t place = 12;
     while (refusal == 0 && place < file_bytes)
         refusal = take_chunk(file, file_bytes, &place, &chunks);
     if (refusal == 0)
-        refusal = read_chunks(&chunks, record);
+        refusal = read_chunks(&chunks, file + file_bytes, record);
     *sound = chunks.data;
     return refusal;
 }
 
-uint32_t second_read(const uint8_t *file, size_t file_bytes, uint32_t *record, size_t record_words)
+/* The titles as words, and their texts one after the other. */
+static void store_titles(const struct record *read, uint32_t *record, uint8_t *titles)
+{
+    size_t place = 0;
+    record[393] = read->title_count;
+    for (uint32_t i = 0; i < read->title_count; i++) {
+        const struct title *title = &read->titles[i];
+        uint32_t words[4] = {title->kind, title->name, (uint32_t)place, (uint32_t)title->bytes - 1};
+        memcpy(record + 394 + 4 * i, words, sizeof words);
+        memcpy(titles + place, title->text, title->bytes);
+        place += title->bytes;
+    }
+}
+
+uint32_t second_read(const uint8_t *file, size_t file_bytes, uint32_t *record, size_t record_words,
+                     uint8_t *titles, size_t title_bytes)
 {
     struct record read;
     struct part sound;
     uint32_t refusal = second_open(file, file_bytes, &read, &sound);
     if (refusal != 0)
         return refusal;
-    if (record_words < TRONALHET_RECORD_WORDS)
+    if (record_words < TRONALHET_RECORD_WORDS || title_bytes < title_texts_bytes(&read))
         return 14;
     uint32_t start[9] = {read.tag,     read.channels, read.rate,      read.bits,       read.align,
                          read.samples, read.frames,   read.cue_count, read.entry_count};
@@ -233,6 +259,7 @@ uint32_t second_read(const uint8_t *file, size_t file_bytes, uint32_t *record, s
         record[202 + 3 * i] = read.entries[i].length;
         record[203 + 3 * i] = read.entries[i].times;
     }
+    store_titles(&read, record, titles);
     return 0;
 }
 

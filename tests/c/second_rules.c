@@ -1,9 +1,21 @@
-/* The rules of document 01 for a record, in the order of their refusal numbers 9 to 13, and the
+/* The rules of documents 01 and 02 for a record, in the order of their refusal numbers 9 to 13 and 21, and the
  * little-endian numbers. */
 #include "second_parts.h"
 
+#include <string.h>
+
 const int32_t second_pairs[7][2] = {{256, 0}, {512, -256}, {0, 0},     {192, 64},
                                     {240, 0}, {460, -208}, {392, -232}};
+
+bool is_code(const uint8_t *at, const char *code)
+{
+    return memcmp(at, code, 4) == 0;
+}
+
+void clear_record(struct record *record)
+{
+    memset(record, 0, offsetof(struct record, titles));
+}
 
 uint32_t number16(const uint8_t *at)
 {
@@ -133,6 +145,29 @@ bool entries_are_right(const struct record *record)
             return false;
         if ((uint64_t)cue->place + entry->length > record->frames)
             return false;
+    }
+    return true;
+}
+
+/* A text has 0 to 255 bytes before its zero, which is last and only there. */
+static bool text_is_right(const struct title *title)
+{
+    if (title->bytes < 1 || title->bytes > 256)
+        return false;
+    return memchr(title->text, 0, title->bytes) == title->text + title->bytes - 1;
+}
+
+/* 21: each title names a cue, its text is right, and a cue has at most one of each kind. */
+bool titles_are_right(const struct record *record)
+{
+    for (uint32_t i = 0; i < record->title_count; i++) {
+        const struct title *title = &record->titles[i];
+        if (cue_named(record, title->name) == NULL || !text_is_right(title))
+            return false;
+        for (uint32_t earlier = 0; earlier < i; earlier++) {
+            if (record->titles[earlier].kind == title->kind && record->titles[earlier].name == title->name)
+                return false;
+        }
     }
     return true;
 }

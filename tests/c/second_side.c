@@ -1,4 +1,5 @@
-/* Sides: what a side is, one without songs, and one with one song more. */
+/* Sides: what a side is, one without songs, and one with one song more, which keeps the titles of the side
+ * and takes none of the song's. */
 #include "second.h"
 #include "second_parts.h"
 

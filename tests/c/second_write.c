@@ -1,4 +1,5 @@
-/* Writing: a record and its sound to a file, by the rules of Writing in document 01. */
+/* Writing: a record, the texts of its titles and its sound to a file, by the rules of Writing in document 01
+ * and by document 02. */
 #include "second.h"
 #include "second_parts.h"
 
@@ -7,7 +8,7 @@
 /* The record of its words; what stands past the counts is no part of it. */
 static void record_of_words(const uint32_t *words, struct record *record)
 {
-    memset(record, 0, sizeof *record);
+    clear_record(record);
     record->tag = words[0];
     record->channels = words[1];
     record->rate = words[2];
@@ -25,6 +26,30 @@ static void record_of_words(const uint32_t *words, struct record *record)
         const uint32_t *entry = words + 9 + 3 * MOST_ENTRIES + 3 * i;
         record->entries[i] = (struct entry){entry[0], entry[1], entry[2]};
     }
+}
+
+/* The titles of the words, as reading gives them: at most 128, labels and notes, their texts one after the
+ * other from the start of the buffer, and within it. */
+static bool titles_of_words(const uint32_t *words, const uint8_t *titles, size_t title_bytes,
+                            struct record *record)
+{
+    uint32_t count = words[TRONALHET_TITLES];
+    size_t end = 0;
+    if (count > MOST_TITLES)
+        return false;
+    for (uint32_t i = 0; i < count; i++) {
+        const uint32_t *title = words + TRONALHET_FIRST_TITLE + TRONALHET_TITLE_WORDS * i;
+        size_t length = title[TRONALHET_TITLE_LENGTH];
+        if (title[TRONALHET_TITLE_KIND] > NOTE || title[TRONALHET_TITLE_START] != end)
+            return false;
+        if (length >= title_bytes - end)
+            return false;
+        record->titles[i] =
+            (struct title){title[TRONALHET_TITLE_KIND], title[TRONALHET_TITLE_NAME], titles + end, length + 1};
+        end += length + 1;
+    }
+    record->title_count = count;
+    return titles_are_right(record);
 }
 
 /* A record that reading could not give with this sound is refused with reading's number. */
@@ -57,10 +82,12 @@ uint64_t written_bytes(const struct record *record, uint64_t sound_bytes)
         bytes += 8 + 4 + 24 * (uint64_t)record->cue_count;
     if (record->entry_count > 0)
         bytes += 8 + 4 + 12 * (uint64_t)record->entry_count;
+    if (record->title_count > 0)
+        bytes += 8 + title_list_bytes(record);
     return bytes + 8 + sound_bytes + sound_bytes % 2;
 }
 
-static uint8_t *put_header(uint8_t *at, const char *code, uint32_t size)
+uint8_t *put_header(uint8_t *at, const char *code, uint32_t size)
 {
     memcpy(at, code, 4);
     put32(at + 4, size);
@@ -138,12 +165,15 @@ size_t put_before_sound(const struct record *record, uint32_t sound_bytes, uint8
         at = put_cues(at, record);
     if (record->entry_count > 0)
         at = put_entries(at, record);
+    if (record->title_count > 0)
+        at = put_titles(at, record);
     at = put_header(at, "data", sound_bytes);
     return (size_t)(at - out);
 }
 
-tronalhet_answer second_write(const uint32_t *record, size_t record_words, const uint8_t *sound,
-                              size_t sound_bytes, uint8_t *out, size_t out_bytes)
+tronalhet_answer second_write(const uint32_t *record, size_t record_words, const uint8_t *titles,
+                              size_t title_bytes, const uint8_t *sound, size_t sound_bytes, uint8_t *out,
+                              size_t out_bytes)
 {
     if (record_words < TRONALHET_RECORD_WORDS)
         return (tronalhet_answer){9, 0};
@@ -152,6 +182,8 @@ tronalhet_answer second_write(const uint32_t *record, size_t record_words, const
     uint32_t refusal = record_refusal(&given, sound_bytes);
     if (refusal != 0)
         return (tronalhet_answer){refusal, 0};
+    if (!titles_of_words(record, titles, title_bytes, &given))
+        return (tronalhet_answer){21, 0};
     uint64_t bytes = written_bytes(&given, sound_bytes);
     if (bytes > FILE_LIMIT)
         return (tronalhet_answer){1, 0};
