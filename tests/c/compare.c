@@ -10,7 +10,7 @@
 #include <stdlib.h>
 #include <string.h>
 
-enum { DEFAULT_COUNT = 400000, DEFAULT_SEED = 1992, GUARD = 64, REFUSALS = 21 };
+enum { DEFAULT_COUNT = 400000, DEFAULT_SEED = 1992, GUARD = 64, REFUSALS = 22 };
 
 static const struct functions library = {"library",        tronalhet_read,   tronalhet_sound,
                                          tronalhet_write,  tronalhet_decode, tronalhet_decode_block,
@@ -31,14 +31,14 @@ static const size_t widths[OPERATIONS] = {4, sizeof(size_t), 1, 2, 2, 1, 1, 1};
 #define BIT(number) (1ul << (number))
 #define BITS_1_TO_13 0x3FFEul
 static const unsigned long expected[OPERATIONS] = {
-    BIT(0) | BITS_1_TO_13 | BIT(14),
-    BIT(0) | BITS_1_TO_13 | BIT(14),
-    BIT(0) | BIT(9) | BIT(10) | BIT(11) | BIT(12) | BIT(13) | BIT(14),
-    BIT(0) | BITS_1_TO_13 | BIT(14) | BIT(15),
-    BIT(0) | BITS_1_TO_13 | BIT(14) | BIT(15) | BIT(20),
+    BIT(0) | BITS_1_TO_13 | BIT(14) | BIT(21),
+    BIT(0) | BITS_1_TO_13 | BIT(14) | BIT(21),
+    BIT(0) | BIT(9) | BIT(10) | BIT(11) | BIT(12) | BIT(13) | BIT(14) | BIT(21),
+    BIT(0) | BITS_1_TO_13 | BIT(14) | BIT(15) | BIT(21),
+    BIT(0) | BITS_1_TO_13 | BIT(14) | BIT(15) | BIT(20) | BIT(21),
     BIT(0) | BIT(9) | BIT(10) | BIT(14),
     BIT(0) | BIT(9) | BIT(14),
-    BIT(0) | BITS_1_TO_13 | BIT(14) | BIT(16) | BIT(17) | BIT(18) | BIT(19),
+    BIT(0) | BITS_1_TO_13 | BIT(14) | BIT(16) | BIT(17) | BIT(18) | BIT(19) | BIT(21),
 };
 
 /* All that a function answers; what it does not answer is 0. */
@@ -50,10 +50,18 @@ struct outcome {
 };
 
 /* What can differ, or be wrong. */
-enum difference { IN_REFUSAL, IN_N, IN_CHASED, IN_OUTPUT, IN_INPUT, DIFFERENCES };
+enum difference { IN_REFUSAL, IN_N, IN_CHASED, IN_OUTPUT, IN_TITLES, IN_INPUT, DIFFERENCES };
 
-static const char *const difference_names[DIFFERENCES] = {"refusal", "n", "chased counts", "output",
-                                                          "changed input"};
+static const char *const difference_names[DIFFERENCES] = {"refusal", "n",      "chased counts",
+                                                          "output",  "titles", "changed input"};
+
+/* What a function is lent to write to, in elements; the titles are for reading alone. */
+struct lent {
+    void *out;
+    size_t room;
+    uint8_t *titles;
+    size_t title_room;
+};
 
 struct comparison {
     struct maker maker;
@@ -62,6 +70,8 @@ struct comparison {
     struct bytes scratch;
     struct bytes library_out; /* the lent buffers with their guards */
     struct bytes second_out;
+    struct bytes library_titles;
+    struct bytes second_titles;
     uint64_t cases[OPERATIONS];
     uint64_t given[OPERATIONS][REFUSALS];
     uint64_t seen[OPERATIONS][DIFFERENCES][REFUSALS + 1][REFUSALS + 1];
@@ -79,21 +89,25 @@ static struct outcome of_answer(tronalhet_answer answer)
     return (struct outcome){answer.refusal, 0, 0, answer.n};
 }
 
-/* One call; the room is in elements of the output. */
-static struct outcome run(const struct functions *functions, const struct call *call, void *out, size_t room)
+/* One call. */
+static struct outcome run(const struct functions *functions, const struct call *call, const struct lent *to)
 {
+    void *out = to->out;
+    size_t room = to->room;
     const uint8_t *file = lent(call, &call->file);
     size_t bytes = call->file.count;
     const uint32_t *words = call->word_count == 0 && call->null_when_empty ? NULL : call->words;
+    const uint8_t *titles = lent(call, &call->titles);
     const void *samples = lent(call, &call->samples);
     tronalhet_coded coded;
     switch (call->operation) {
     case READ:
-        return (struct outcome){functions->read(file, bytes, out, room), 0, 0, 0};
+        return (struct outcome){functions->read(file, bytes, out, room, to->titles, to->title_room), 0, 0, 0};
     case SOUND:
         return of_answer(functions->sound(file, bytes, out, room));
     case WRITE:
-        return of_answer(functions->write(words, call->word_count, file, bytes, out, room));
+        return of_answer(functions->write(words, call->word_count, titles, call->titles.count, file, bytes, out,
+                                          room));
     case DECODE:
         return of_answer(functions->decode(file, bytes, out, room));
     case DECODE_BLOCK:
@@ -109,21 +123,41 @@ static struct outcome run(const struct functions *functions, const struct call *
     }
 }
 
+/* The record of a call's file by the second implementation, all zero where it is refused. */
+static void read_words(const struct call *call, uint32_t words[TRONALHET_RECORD_WORDS])
+{
+    uint8_t titles[TRONALHET_MOST_TITLE_BYTES];
+    memset(words, 0, TRONALHET_RECORD_WORDS * sizeof *words);
+    second_read(call->file.at, call->file.count, words, TRONALHET_RECORD_WORDS, titles, sizeof titles);
+}
+
+/* The bytes that the texts of a call's file need. */
+static size_t needed_for_titles(const struct call *call)
+{
+    uint32_t words[TRONALHET_RECORD_WORDS];
+    size_t needed = 0;
+    read_words(call, words);
+    for (uint32_t i = 0; i < words[TRONALHET_TITLES]; i++)
+        needed += words[TRONALHET_FIRST_TITLE + TRONALHET_TITLE_WORDS * i + TRONALHET_TITLE_LENGTH] + 1;
+    return needed;
+}
+
 /* The elements that the output needs, found by a call of the second implementation with plenty of room. */
 static size_t needed_room(struct comparison *comparison)
 {
     const struct call *call = &comparison->call;
-    size_t plenty = 4 * (call->file.count + call->song.count + call->samples.count) + 8192;
+    size_t plenty =
+        4 * (call->file.count + call->song.count + call->samples.count + call->titles.count) + 8192;
     if (call->operation == READ)
         return TRONALHET_RECORD_WORDS;
     if (call->operation == SOUND)
         return 1;
     bytes_resize(&comparison->scratch, plenty * widths[call->operation]);
-    struct outcome outcome = run(&second, call, comparison->scratch.at, plenty);
+    struct outcome outcome = run(&second, call, &(struct lent){comparison->scratch.at, plenty, NULL, 0});
     if (call->operation != DECODE && call->operation != DECODE_BLOCK)
         return outcome.n;
-    uint32_t words[TRONALHET_RECORD_WORDS] = {0};
-    second_read(call->file.at, call->file.count, words, TRONALHET_RECORD_WORDS);
+    uint32_t words[TRONALHET_RECORD_WORDS];
+    read_words(call, words);
     return (call->operation == DECODE ? words[6] : words[5]) * words[1];
 }
 
@@ -145,12 +179,12 @@ static size_t choose_room(struct luck *luck, size_t needed)
     }
 }
 
-/* Both buffers get the same random contents, guards before and behind. */
-static void fill_outputs(struct comparison *comparison, struct luck *luck, size_t bytes)
+/* A buffer of so many bytes for each of the two, with the same random contents and guards before and behind. */
+static void fill_both(struct bytes *ours, struct bytes *theirs, struct luck *luck, size_t bytes)
 {
-    comparison->library_out.count = 0;
-    bytes_add_random(&comparison->library_out, luck, GUARD + bytes + GUARD);
-    bytes_copy(&comparison->second_out, &comparison->library_out);
+    ours->count = 0;
+    bytes_add_random(ours, luck, GUARD + bytes + GUARD);
+    bytes_copy(theirs, ours);
 }
 
 static void keep_inputs(struct comparison *comparison)
@@ -158,6 +192,7 @@ static void keep_inputs(struct comparison *comparison)
     bytes_copy(&comparison->kept.file, &comparison->call.file);
     bytes_copy(&comparison->kept.song, &comparison->call.song);
     bytes_copy(&comparison->kept.samples, &comparison->call.samples);
+    bytes_copy(&comparison->kept.titles, &comparison->call.titles);
     memcpy(comparison->kept.words, comparison->call.words, sizeof comparison->kept.words);
 }
 
@@ -171,7 +206,7 @@ static bool inputs_are_kept(const struct comparison *comparison)
     const struct call *call = &comparison->call;
     const struct call *kept = &comparison->kept;
     return same_bytes(&call->file, &kept->file) && same_bytes(&call->song, &kept->song) &&
-           same_bytes(&call->samples, &kept->samples) &&
+           same_bytes(&call->samples, &kept->samples) && same_bytes(&call->titles, &kept->titles) &&
            memcmp(call->words, kept->words, sizeof kept->words) == 0;
 }
 
@@ -190,6 +225,8 @@ static void print_words(const struct call *call)
         printf(" %" PRIu32, call->words[i]);
     for (size_t i = 0; i < call->word_count && i < 50; i++)
         printf("%s%08" PRIx32, i % 8 == 0 ? "\n    " : " ", call->words[i]);
+    for (size_t i = TRONALHET_TITLES; i < call->word_count && i < TRONALHET_TITLES + 41; i++)
+        printf("%s%08" PRIx32, i % 4 == 2 ? "\n    " : " ", call->words[i]);
     printf("\n");
 }
 
@@ -201,8 +238,10 @@ static void print_outcome(const char *name, struct outcome outcome)
 
 static void print_call(const struct call *call)
 {
-    if (call->operation == WRITE)
+    if (call->operation == WRITE) {
         print_words(call);
+        print_bytes("titles", call->titles.at, call->titles.count);
+    }
     if (call->operation == DECODE_BLOCK)
         printf("  block %" PRIu32 "\n", call->block);
     if (call->operation == ENCODE)
@@ -224,17 +263,15 @@ static void print_call(const struct call *call)
         print_bytes("song", call->song.at, call->song.count);
 }
 
-/* The first place where the two buffers differ, counted from the start of the lent part. */
-static void print_output_difference(const struct comparison *comparison)
+/* The first place where two buffers differ, counted from the start of the lent part. */
+static void print_difference(const char *name, const struct bytes *one, const struct bytes *other)
 {
-    const struct bytes *one = &comparison->library_out;
-    const struct bytes *other = &comparison->second_out;
     size_t place = 0;
     while (place < one->count && one->at[place] == other->at[place])
         place++;
     if (place == one->count)
         return;
-    printf("  byte %ld of the output: library %02x, second %02x\n", (long)place - GUARD, one->at[place],
+    printf("  byte %ld of the %s: library %02x, second %02x\n", (long)place - GUARD, name, one->at[place],
            other->at[place]);
 }
 
@@ -244,8 +281,8 @@ static uint32_t kind_of(uint32_t refusal)
 }
 
 /* Counts a difference, and prints the first one of its kind. */
-static void report(struct comparison *comparison, enum difference difference, uint64_t number, size_t room,
-                   struct outcome ours, struct outcome theirs)
+static void report(struct comparison *comparison, enum difference difference, uint64_t number,
+                   const struct lent *to, struct outcome ours, struct outcome theirs)
 {
     const struct call *call = &comparison->call;
     uint64_t *seen =
@@ -254,27 +291,36 @@ static void report(struct comparison *comparison, enum difference difference, ui
     (*seen)++;
     if (*seen > 1)
         return;
-    printf("difference in %s: %s, case %" PRIu64 ", room %zu\n", difference_names[difference],
-           names[call->operation], number, room);
+    printf("difference in %s: %s, case %" PRIu64 ", room %zu, for titles %zu\n", difference_names[difference],
+           names[call->operation], number, to->room, to->title_room);
     print_outcome("library", ours);
     print_outcome("second", theirs);
-    print_output_difference(comparison);
+    print_difference("output", &comparison->library_out, &comparison->second_out);
+    print_difference("titles", &comparison->library_titles, &comparison->second_titles);
     print_call(call);
 }
 
-static void compare_outcomes(struct comparison *comparison, uint64_t number, size_t room, struct outcome ours,
-                             struct outcome theirs)
+static void compare_outcomes(struct comparison *comparison, uint64_t number, const struct lent *to,
+                             struct outcome ours, struct outcome theirs)
 {
     if (ours.refusal != theirs.refusal)
-        report(comparison, IN_REFUSAL, number, room, ours, theirs);
+        report(comparison, IN_REFUSAL, number, to, ours, theirs);
     if (ours.n != theirs.n)
-        report(comparison, IN_N, number, room, ours, theirs);
+        report(comparison, IN_N, number, to, ours, theirs);
     if (ours.left != theirs.left || ours.right != theirs.right)
-        report(comparison, IN_CHASED, number, room, ours, theirs);
+        report(comparison, IN_CHASED, number, to, ours, theirs);
     if (!same_bytes(&comparison->library_out, &comparison->second_out))
-        report(comparison, IN_OUTPUT, number, room, ours, theirs);
+        report(comparison, IN_OUTPUT, number, to, ours, theirs);
+    if (!same_bytes(&comparison->library_titles, &comparison->second_titles))
+        report(comparison, IN_TITLES, number, to, ours, theirs);
     if (!inputs_are_kept(comparison))
-        report(comparison, IN_INPUT, number, room, ours, theirs);
+        report(comparison, IN_INPUT, number, to, ours, theirs);
+}
+
+/* The lent part of a buffer; with no element the pointer is null in half of the cases. */
+static void *lent_part(const struct bytes *buffer, size_t elements, bool null_when_empty)
+{
+    return elements == 0 && null_when_empty ? NULL : buffer->at + GUARD;
 }
 
 static void run_case(struct comparison *comparison, uint64_t number)
@@ -282,19 +328,24 @@ static void run_case(struct comparison *comparison, uint64_t number)
     struct call *call = &comparison->call;
     struct luck luck = luck_of(comparison->maker.seed, number);
     make_call(&comparison->maker, number, &luck, call);
-    size_t room = choose_room(&luck, needed_room(comparison));
-    fill_outputs(comparison, &luck, room * widths[call->operation]);
+    struct lent to = {NULL, choose_room(&luck, needed_room(comparison)), NULL, 0};
+    if (call->operation == READ)
+        to.title_room = choose_room(&luck, needed_for_titles(call));
+    fill_both(&comparison->library_out, &comparison->second_out, &luck, to.room * widths[call->operation]);
+    fill_both(&comparison->library_titles, &comparison->second_titles, &luck, to.title_room);
     keep_inputs(comparison);
-    bool null = room == 0 && luck_one_in(&luck, 2);
-    uint8_t *library_out = null ? NULL : comparison->library_out.at + GUARD;
-    uint8_t *second_out = null ? NULL : comparison->second_out.at + GUARD;
-    struct outcome ours = run(&library, call, library_out, room);
-    struct outcome theirs = run(&second, call, second_out, room);
+    bool null = luck_one_in(&luck, 2);
+    to.out = lent_part(&comparison->library_out, to.room, null);
+    to.titles = lent_part(&comparison->library_titles, to.title_room, null);
+    struct outcome ours = run(&library, call, &to);
+    to.out = lent_part(&comparison->second_out, to.room, null);
+    to.titles = lent_part(&comparison->second_titles, to.title_room, null);
+    struct outcome theirs = run(&second, call, &to);
     comparison->cases[call->operation]++;
     comparison->given[call->operation][kind_of(theirs.refusal) % REFUSALS]++;
-    compare_outcomes(comparison, number, room, ours, theirs);
+    compare_outcomes(comparison, number, &to, ours, theirs);
     if (call->on_growing_side && theirs.refusal == 0)
-        keep_grown(&comparison->maker, second_out, theirs.n);
+        keep_grown(&comparison->maker, to.out, theirs.n);
 }
 
 /* One line for each operation. */
@@ -335,6 +386,8 @@ static void comparison_free(struct comparison *comparison)
     bytes_free(&comparison->scratch);
     bytes_free(&comparison->library_out);
     bytes_free(&comparison->second_out);
+    bytes_free(&comparison->library_titles);
+    bytes_free(&comparison->second_titles);
     free(comparison);
 }
 

@@ -1,5 +1,5 @@
 /* The examples printed in document 01 under "Programs and checked examples", with their values typed in
- * from there; the 45-byte file is as document 02 has it. */
+ * from there; the 45-byte file is as document 02 has it, and so are the titles. */
 #include "both.h"
 
 #include <stdbool.h>
@@ -32,6 +32,19 @@ static void fill_record(uint32_t *record, const uint32_t start[7])
     memcpy(record, start, 7 * sizeof *record);
 }
 
+/* Reads a file without titles, and writes one. */
+static uint32_t read_plain(const struct functions *functions, const uint8_t *file, size_t bytes,
+                           uint32_t *record)
+{
+    return functions->read(file, bytes, record, TRONALHET_RECORD_WORDS, NULL, 0);
+}
+
+static tronalhet_answer write_plain(const struct functions *functions, const uint32_t *record,
+                                    const uint8_t *sound, size_t sound_bytes, uint8_t *out, size_t out_bytes)
+{
+    return functions->write(record, TRONALHET_RECORD_WORDS, NULL, 0, sound, sound_bytes, out, out_bytes);
+}
+
 /* Writes a mono file of this tag, bits, align, samples per block and frames, and decodes it. */
 static tronalhet_answer decode_mono(const struct functions *functions, const uint32_t format[5],
                                     const uint8_t *sound, size_t sound_bytes, int16_t *out, size_t out_samples)
@@ -40,8 +53,7 @@ static tronalhet_answer decode_mono(const struct functions *functions, const uin
     uint8_t file[2000];
     uint32_t start[7] = {format[0], 1, 8000, format[1], format[2], format[3], format[4]};
     fill_record(record, start);
-    tronalhet_answer written =
-        functions->write(record, TRONALHET_RECORD_WORDS, sound, sound_bytes, file, sizeof file);
+    tronalhet_answer written = write_plain(functions, record, sound, sound_bytes, file, sizeof file);
     if (written.refusal != 0)
         return (tronalhet_answer){100 + written.refusal, 0};
     return functions->decode(file, written.n, out, out_samples);
@@ -138,23 +150,22 @@ static void small_files(struct examples *examples)
     uint32_t record[TRONALHET_RECORD_WORDS];
     const struct functions *functions = examples->functions;
     small_file(file, 36, 8, 1, 0);
-    expect(examples, functions->read(file, 44, record, TRONALHET_RECORD_WORDS) == 0,
-           "no sound: 44 bytes, accepted");
+    expect(examples, read_plain(functions, file, 44, record) == 0, "no sound: 44 bytes, accepted");
     small_file(file, 38, 8, 1, 1);
-    expect(examples, functions->read(file, 46, record, TRONALHET_RECORD_WORDS) == 0, "one byte: 46, accepted");
+    expect(examples, read_plain(functions, file, 46, record) == 0, "one byte: 46, accepted");
     small_file(file, 37, 8, 1, 1);
-    expect(examples, functions->read(file, 45, record, TRONALHET_RECORD_WORDS) == 0, "45 with R 37, accepted");
+    expect(examples, read_plain(functions, file, 45, record) == 0, "45 with R 37, accepted");
     small_file(file, 38, 8, 1, 1);
-    expect(examples, functions->read(file, 45, record, TRONALHET_RECORD_WORDS) == 3, "45 with R 38 is 3");
+    expect(examples, read_plain(functions, file, 45, record) == 3, "45 with R 38 is 3");
     small_file(file, 36, 20, 3, 0);
-    expect(examples, functions->read(file, 44, record, TRONALHET_RECORD_WORDS) == 9, "the 20-bit example is 9");
+    expect(examples, read_plain(functions, file, 44, record) == 9, "the 20-bit example is 9");
     uint32_t start[7] = {1, 1, 44100, 8, 1, 1, 0};
     uint8_t out[46];
     fill_record(record, start);
-    tronalhet_answer answer = functions->write(record, TRONALHET_RECORD_WORDS, NULL, 0, out, sizeof out);
+    tronalhet_answer answer = write_plain(functions, record, NULL, 0, out, sizeof out);
     expect(examples, answer.refusal == 0 && answer.n == 44, "no sound is written in 44 bytes");
     record[6] = 1;
-    answer = functions->write(record, TRONALHET_RECORD_WORDS, file, 1, out, sizeof out);
+    answer = write_plain(functions, record, file, 1, out, sizeof out);
     expect(examples, answer.refusal == 0 && answer.n == 46, "one byte is written in 46 bytes");
 }
 
@@ -173,15 +184,11 @@ static void samples_of_256(struct examples *examples, uint32_t tag, uint32_t sam
     expect(examples, decode_mono(functions, less, block, 256, out, 600).refusal == 109, "and not one less");
 }
 
-/* The file of the listing program: mono, 16 bits, rate 8000, four frames, cue 7 at 0 played once, whole. */
-static void listed_file(struct examples *examples)
+/* The record of the listing program's file: mono, 16 bits, rate 8000, four frames, cue 7 at 0 played once,
+ * whole. */
+static void fill_listed_record(uint32_t *record)
 {
-    uint32_t record[TRONALHET_RECORD_WORDS];
-    uint32_t again[TRONALHET_RECORD_WORDS];
     const uint32_t start[7] = {1, 1, 8000, 16, 2, 1, 4};
-    const uint8_t sound[8] = {0};
-    uint8_t file[200];
-    const struct functions *functions = examples->functions;
     fill_record(record, start);
     record[7] = 1;
     record[8] = 1;
@@ -189,11 +196,47 @@ static void listed_file(struct examples *examples)
     record[201] = 7;
     record[202] = 4;
     record[203] = 1;
-    tronalhet_answer answer = functions->write(record, TRONALHET_RECORD_WORDS, sound, 8, file, sizeof file);
+}
+
+static void listed_file(struct examples *examples)
+{
+    uint32_t record[TRONALHET_RECORD_WORDS];
+    uint32_t again[TRONALHET_RECORD_WORDS];
+    const uint8_t sound[8] = {0};
+    uint8_t file[200];
+    const struct functions *functions = examples->functions;
+    fill_listed_record(record);
+    tronalhet_answer answer = write_plain(functions, record, sound, 8, file, sizeof file);
     expect(examples, answer.refusal == 0, "the listed file is written");
-    expect(examples, functions->read(file, answer.n, again, TRONALHET_RECORD_WORDS) == 0,
-           "the listed file is read");
+    expect(examples, read_plain(functions, file, answer.n, again) == 0, "the listed file is read");
     expect(examples, memcmp(record, again, sizeof record) == 0, "the listed file gives its record");
+}
+
+/* The same with a note and a label of the cue. The list stands between plst and data: 8 + 4 bytes, a note of
+ * 8 + 4 + 3, its pad, and a label of 8 + 4 + 6. */
+static void titled_file(struct examples *examples)
+{
+    static const char list[] = "LIST\x26\0\0\0adtlnote\x07\0\0\0\x07\0\0\0by\0\0labl\x0A\0\0\0\x07\0\0\0Waltz";
+    static const char texts[] = "by\0Waltz";
+    uint32_t record[TRONALHET_RECORD_WORDS];
+    uint32_t again[TRONALHET_RECORD_WORDS];
+    const uint32_t titles[9] = {2, 1, 7, 0, 2, 0, 7, 3, 5};
+    const uint8_t sound[8] = {0};
+    uint8_t back[10] = {0};
+    uint8_t file[200];
+    const struct functions *functions = examples->functions;
+    fill_listed_record(record);
+    memcpy(record + 393, titles, sizeof titles);
+    tronalhet_answer answer = functions->write(record, TRONALHET_RECORD_WORDS, (const uint8_t *)texts,
+                                               sizeof texts, sound, 8, file, sizeof file);
+    expect(examples, answer.refusal == 0 && answer.n == 112 + 46, "the file with titles is written");
+    expect(examples, memcmp(file + 96, list, sizeof list) == 0, "its list is between plst and data");
+    expect(examples, functions->read(file, answer.n, again, TRONALHET_RECORD_WORDS, back, 8) == 14,
+           "a byte too few for its texts is 14");
+    expect(examples, functions->read(file, answer.n, again, TRONALHET_RECORD_WORDS, back, 9) == 0,
+           "the file with titles is read");
+    expect(examples, memcmp(record, again, sizeof record) == 0, "the file with titles gives its record");
+    expect(examples, memcmp(texts, back, sizeof texts) == 0 && back[9] == 0, "and its texts");
 }
 
 unsigned run_examples(const struct functions *functions)
@@ -210,5 +253,6 @@ unsigned run_examples(const struct functions *functions)
     samples_of_256(&examples, 17, 505);
     samples_of_256(&examples, 2, 500);
     listed_file(&examples);
+    titled_file(&examples);
     return examples.failed;
 }

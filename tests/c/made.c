@@ -344,6 +344,7 @@ void choose_tables(struct luck *luck, struct plan *plan)
     plan->entry_count = plan->cue_count == 0 ? 0 : choose_count(luck);
     choose_cues(luck, plan);
     choose_entries(luck, plan);
+    choose_titles(luck, plan);
 }
 
 static void break_cues(struct luck *luck, struct plan *plan)
@@ -401,6 +402,8 @@ void make_plan(struct luck *luck, struct plan *plan, bool faulty)
         break_cues(luck, plan);
     if (faulty && luck_one_in(luck, 4))
         break_entries(luck, plan);
+    if (faulty && luck_one_in(luck, 3))
+        break_titles(luck, plan);
 }
 
 void make_side_plan(struct luck *luck, struct plan *plan)
@@ -424,6 +427,7 @@ void make_side_plan(struct luck *luck, struct plan *plan)
     plan->blocks = plan->frames;
     plan->sound.count = 0;
     bytes_add_random(&plan->sound, luck, (size_t)plan->frames * plan->align);
+    choose_titles(luck, plan);
 }
 
 /* Two songs change their places in one of the tables. */
@@ -486,4 +490,5 @@ void break_side_plan(struct luck *luck, struct plan *plan)
         plan->align = plan->channels;
         bytes_resize(&plan->sound, plan->sound.count / 2);
     }
+    choose_titles(luck, plan);
 }

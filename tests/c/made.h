@@ -42,6 +42,7 @@ void bytes_put(struct bytes *bytes, size_t place, size_t width, uint32_t value);
 void bytes_free(struct bytes *bytes);
 
 enum { MADE_ENTRIES = 65 }; /* one more than a table may have */
+enum { MADE_TITLES = 131 }; /* some more than a record may have */
 
 struct made_cue {
     uint32_t name;
@@ -53,6 +54,13 @@ struct made_entry {
     uint32_t name;
     uint32_t length;
     uint32_t times;
+};
+
+struct made_title {
+    uint32_t kind;
+    uint32_t name;
+    uint32_t start;  /* of its text in the texts of the plan */
+    uint32_t length; /* before its zero */
 };
 
 /* What a file is to say, before it is laid out in chunks or words. */
@@ -67,8 +75,11 @@ struct plan {
     uint32_t frames;
     uint32_t cue_count;
     uint32_t entry_count;
+    uint32_t title_count;
     struct made_cue cues[MADE_ENTRIES];
     struct made_entry entries[MADE_ENTRIES];
+    struct made_title titles[MADE_TITLES];
+    struct bytes texts; /* of the titles, with their zeros, one after the other */
     struct bytes sound;
 };
 
@@ -76,6 +87,13 @@ void make_plan(struct luck *luck, struct plan *plan, bool faulty);
 void make_side_plan(struct luck *luck, struct plan *plan);
 void break_side_plan(struct luck *luck, struct plan *plan);
 void choose_tables(struct luck *luck, struct plan *plan);
+void choose_titles(struct luck *luck, struct plan *plan);
+void break_titles(struct luck *luck, struct plan *plan);
+
+/* The data of a list of titles. The answer is whether the pad of its last chunk is lost, which may be
+ * wished. */
+bool list_of_plan(struct luck *luck, const struct plan *plan, struct bytes *list, bool lost);
+void disturb_list(struct luck *luck, struct bytes *list);
 
 enum { MOST_CHUNKS = 16 };
 
@@ -104,7 +122,7 @@ struct worn {
 void wear_file(struct luck *luck, struct worn *worn, struct made_file *file);
 
 enum operation { READ, SOUND, WRITE, DECODE, DECODE_BLOCK, ENCODE, EMPTY, ADD, OPERATIONS };
-enum { CALL_WORDS = 400 };
+enum { CALL_WORDS = 920 };
 
 /* What one call takes, without its output. */
 struct call {
@@ -112,6 +130,7 @@ struct call {
     struct bytes file; /* for writing the sound, for adding the side */
     struct bytes song;
     struct bytes samples; /* 16 bits each */
+    struct bytes titles;  /* their texts, for writing */
     uint32_t words[CALL_WORDS];
     size_t word_count;
     uint16_t channels;

@@ -1,5 +1,5 @@
-/* Calls: files for the reading operations, records and sounds for writing, sounds for encoding, formats for
- * empty sides, sides and songs for adding. */
+/* Calls: files for the reading operations, records, texts and sounds for writing, sounds for encoding, formats
+ * for empty sides, sides and songs for adding. */
 #include "made.h"
 #include "second.h"
 
@@ -90,16 +90,34 @@ static void words_of_plan(struct luck *luck, const struct plan *plan, struct cal
         uint32_t entry[3] = {plan->entries[i].name, plan->entries[i].length, plan->entries[i].times};
         memcpy(call->words + 201 + 3 * i, entry, sizeof entry);
     }
+    call->words[393] = plan->title_count;
+    for (size_t i = 0; i < plan->title_count && i < 128; i++) {
+        const struct made_title *title = &plan->titles[i];
+        uint32_t words[4] = {title->kind, title->name, title->start, title->length};
+        memcpy(call->words + 394 + 4 * i, words, sizeof words);
+    }
+}
+
+/* The texts of a plan, with more behind them, or now and then with less. */
+static void titles_of_plan(struct luck *luck, const struct plan *plan, struct call *call)
+{
+    bytes_copy(&call->titles, &plan->texts);
+    if (luck_one_in(luck, 3))
+        bytes_add_random(&call->titles, luck, 1 + luck_below(luck, 20));
+    if (call->titles.count > 0 && luck_one_in(luck, 16))
+        bytes_resize(&call->titles, luck_one_in(luck, 2) ? plan->texts.count / 2 : call->titles.count - 1);
 }
 
 /* Sets one word that counts, or one next to those, to a border. */
 static void set_word(struct luck *luck, const struct plan *plan, struct call *call)
 {
     uint32_t place = luck_below(luck, 9);
-    if (luck_one_in(luck, 3))
+    if (luck_one_in(luck, 4))
         place = 9 + luck_below(luck, 3 * plan->cue_count + 1);
     else if (luck_one_in(luck, 3))
         place = 201 + luck_below(luck, 3 * plan->entry_count + 1);
+    else if (luck_one_in(luck, 2))
+        place = 393 + luck_below(luck, 4 * plan->title_count + 2);
     call->words[place] = luck_border(luck, call->words[place]);
 }
 
@@ -108,6 +126,7 @@ static void make_write_call(struct maker *maker, struct luck *luck, struct call 
     uint32_t kind = luck_below(luck, 12);
     make_plan(luck, &maker->plan, kind < 4);
     words_of_plan(luck, &maker->plan, call);
+    titles_of_plan(luck, &maker->plan, call);
     bytes_copy(&call->file, &maker->plan.sound);
     call->word_count = luck_one_in(luck, 4) ? CALL_WORDS : TRONALHET_RECORD_WORDS;
     if (kind >= 3 && kind <= 7)
@@ -115,7 +134,7 @@ static void make_write_call(struct maker *maker, struct luck *luck, struct call 
     if (kind == 7)
         set_word(luck, &maker->plan, call);
     if (kind == 8)
-        call->word_count = PICK(luck, 0, 1, 8, 9, 391, 392, 393, 394, luck_below(luck, 393));
+        call->word_count = PICK(luck, 0, 1, 8, 9, 392, 393, 394, 904, 905, 906, 907, luck_below(luck, 906));
     if (kind == 9) {
         uint32_t count = (uint32_t)call->file.count;
         uint32_t wished = PICK(luck, 0, 1, count + 1, count - 1, count + maker->plan.align, count / 2);
@@ -199,13 +218,20 @@ static void make_empty_call(struct luck *luck, struct call *call)
     call->rate = luck_one_in(luck, 2) ? luck_border(luck, 192000) : 1 + luck_below(luck, 192000);
 }
 
-/* The plan of a file that the second implementation takes. */
+/* Reads a file by the second implementation. */
+static bool read_words(const uint8_t *file, size_t file_bytes, uint32_t words[TRONALHET_RECORD_WORDS])
+{
+    uint8_t titles[TRONALHET_MOST_TITLE_BYTES];
+    return second_read(file, file_bytes, words, TRONALHET_RECORD_WORDS, titles, sizeof titles) == 0;
+}
+
+/* The plan of a file that the second implementation takes; its titles stay in the file. */
 static void plan_of_file(const uint8_t *file, size_t file_bytes, struct plan *plan)
 {
     uint32_t words[TRONALHET_RECORD_WORDS];
     size_t start = 0;
     plan->cue_count = 0;
-    if (second_read(file, file_bytes, words, TRONALHET_RECORD_WORDS) != 0)
+    if (!read_words(file, file_bytes, words))
         return;
     plan->tag = words[0];
     plan->channels = words[1];
@@ -232,16 +258,34 @@ void keep_grown(struct maker *maker, const uint8_t *side, size_t side_bytes)
     plan_of_file(side, side_bytes, &maker->grown_plan);
 }
 
+/* Goes on with the file that was made, unless its list of titles is wrong. */
+static bool keep_made(struct maker *maker)
+{
+    uint32_t words[TRONALHET_RECORD_WORDS];
+    const struct bytes *made = &maker->file.bytes;
+    if (!read_words(made->at, made->count, words))
+        return false;
+    keep_grown(maker, made->at, made->count);
+    return true;
+}
+
 /* An empty side to start with, when there is none yet or the last one has long been full. */
 static void start_growing(struct maker *maker, struct luck *luck)
 {
     if (maker->grown.count > 0 && (maker->grown_plan.cue_count < 64 || !luck_one_in(luck, 12)))
         return;
-    do
+    do {
         make_side_plan(luck, &maker->plan);
-    while (maker->plan.cue_count > 0);
-    file_of_plan(luck, &maker->plan, &maker->file);
-    keep_grown(maker, maker->file.bytes.at, maker->file.bytes.count);
+        file_of_plan(luck, &maker->plan, &maker->file);
+    } while (maker->plan.cue_count > 0 || !keep_made(maker));
+}
+
+/* The growing side with other titles, laid out anyhow. */
+static void title_grown(struct maker *maker, struct luck *luck)
+{
+    choose_titles(luck, &maker->grown_plan);
+    file_of_plan(luck, &maker->grown_plan, &maker->file);
+    keep_made(maker);
 }
 
 /* A listed song's sound again: whole, without its last frame, or with a changed sample. */
@@ -301,6 +345,8 @@ static void make_song(struct maker *maker, struct luck *luck, const struct plan 
     if (luck_one_in(luck, 12))
         misfit_song(luck, song);
     choose_tables(luck, song);
+    if (luck_one_in(luck, 12))
+        break_titles(luck, song);
     uint64_t together = (uint64_t)side->frames + song->frames;
     uint32_t sum = together > 0xFFFFFFFF ? 0xFFFFFFFF : (uint32_t)together;
     call->limit = luck_one_in(luck, 3) ? PICK(luck, sum, sum - 1, sum + 1, side->frames, 0) : 0xFFFFFFFF;
@@ -317,6 +363,8 @@ static void make_side(struct maker *maker, struct luck *luck, struct call *call)
     make_side_plan(luck, &maker->plan);
     if (luck_one_in(luck, 5))
         break_side_plan(luck, &maker->plan);
+    if (luck_one_in(luck, 12))
+        break_titles(luck, &maker->plan);
     file_of_plan(luck, &maker->plan, &maker->file);
     if (luck_one_in(luck, 12))
         disturb_chunks(luck, &maker->file);
@@ -330,6 +378,8 @@ static void make_add_call(struct maker *maker, struct luck *luck, struct call *c
     call->on_growing_side = luck_one_in(luck, 2);
     if (call->on_growing_side) {
         start_growing(maker, luck);
+        if (luck_one_in(luck, 8))
+            title_grown(maker, luck);
         bytes_copy(&call->file, &maker->grown);
         make_song(maker, luck, &maker->grown_plan, call);
     } else {
@@ -354,6 +404,7 @@ void make_call(struct maker *maker, uint64_t number, struct luck *luck, struct c
     call->file.count = 0;
     call->song.count = 0;
     call->samples.count = 0;
+    call->titles.count = 0;
     call->word_count = 0;
     if (call->operation == WRITE)
         make_write_call(maker, luck, call);
@@ -374,13 +425,19 @@ static void file_free(struct made_file *file)
     bytes_free(&file->bytes);
 }
 
+static void plan_free(struct plan *plan)
+{
+    bytes_free(&plan->sound);
+    bytes_free(&plan->texts);
+}
+
 void maker_free(struct maker *maker)
 {
     file_free(&maker->file);
     file_free(&maker->song);
-    bytes_free(&maker->plan.sound);
-    bytes_free(&maker->song_plan.sound);
-    bytes_free(&maker->grown_plan.sound);
+    plan_free(&maker->plan);
+    plan_free(&maker->song_plan);
+    plan_free(&maker->grown_plan);
     bytes_free(&maker->grown);
     for (int i = 0; i < OPERATIONS; i++)
         bytes_free(&maker->worn[i].small);
@@ -391,4 +448,5 @@ void call_free(struct call *call)
     bytes_free(&call->file);
     bytes_free(&call->song);
     bytes_free(&call->samples);
+    bytes_free(&call->titles);
 }

@@ -80,15 +80,25 @@ static void add_entries(struct luck *luck, const struct plan *plan, struct made_
     }
 }
 
-/* Chunks that the reader skips: other codes, some of them almost known ones, and other lists. */
+/* The list of titles, now and then without the pad of its last chunk; the answer is whether that is so.
+ * Without titles there is seldom a list. */
+static bool add_titles(struct luck *luck, const struct plan *plan, struct made_file *file)
+{
+    if (plan->title_count == 0 && !luck_one_in(luck, 12))
+        return false;
+    return list_of_plan(luck, plan, &new_chunk(file, "LIST")->data, luck_one_in(luck, 8));
+}
+
+/* Chunks that the reader skips: other codes, some of them almost known ones, and other lists; and now and then
+ * one more list of titles, or what is almost one. */
 static void add_skipped(struct luck *luck, struct made_file *file)
 {
     static const char codes[9][5] = {"junk", "slnt", "Fmt ", "DATA", "cue", "wavl", "RIFF", "labl", "facu"};
-    static const char lists[5][5] = {"INFO", "adtl", "wavL", "xwav", "wav"};
-    while (luck_one_in(luck, 2) && file->chunk_count < 8) {
+    static const char lists[6][5] = {"INFO", "adtl", "wavL", "xwav", "wav", "adtL"};
+    while (luck_one_in(luck, 2) && file->chunk_count < 9) {
         if (luck_one_in(luck, 3)) {
             struct bytes *data = &new_chunk(file, "LIST")->data;
-            bytes_add(data, lists[luck_below(luck, 5)], 4);
+            bytes_add(data, lists[luck_below(luck, 6)], 4);
             bytes_resize(data, PICK(luck, 4, 4, 3, 0, 9));
         } else {
             struct bytes *data = &new_chunk(file, codes[luck_below(luck, 9)])->data;
@@ -150,6 +160,27 @@ static void lay_out(struct luck *luck, struct made_file *file)
     fix_riff_size(bytes);
 }
 
+/* Where a list of titles stands; the number of chunks where there is none. */
+static size_t list_place(const struct made_file *file)
+{
+    size_t place = 0;
+    while (place < file->chunk_count) {
+        const struct bytes *data = &file->chunks[place].data;
+        bool is_list = memcmp(file->chunks[place].code, "LIST", 4) == 0 && data->count >= 4;
+        if (is_list && memcmp(data->at, "adtl", 4) == 0)
+            break;
+        place++;
+    }
+    return place;
+}
+
+static void move_to_end(struct made_file *file, size_t place)
+{
+    for (size_t i = place; i + 1 < file->chunk_count; i++)
+        swap_chunks(file, i, i + 1);
+}
+
+/* A list whose last pad is lost is right only at the file's end, where it mostly goes. */
 void file_of_plan(struct luck *luck, const struct plan *plan, struct made_file *file)
 {
     file->chunk_count = 0;
@@ -157,17 +188,19 @@ void file_of_plan(struct luck *luck, const struct plan *plan, struct made_file *
     add_fact(luck, plan, file);
     add_cues(luck, plan, file);
     add_entries(luck, plan, file);
+    bool lost = add_titles(luck, plan, file);
     bytes_copy(&new_chunk(file, "data")->data, &plan->sound);
     add_skipped(luck, file);
     if (luck_one_in(luck, 2))
         shuffle_chunks(luck, file);
+    if (lost && !luck_one_in(luck, 4))
+        move_to_end(file, list_place(file));
     lay_out(luck, file);
 }
 
 static void drop_chunk(struct made_file *file, size_t place)
 {
-    for (size_t i = place; i + 1 < file->chunk_count; i++)
-        swap_chunks(file, i, i + 1);
+    move_to_end(file, place);
     file->chunk_count--;
 }
 
@@ -188,6 +221,13 @@ static void add_wavl(struct luck *luck, struct made_file *file)
     swap_chunks(file, file->chunk_count - 1, luck_below(luck, (uint32_t)file->chunk_count));
 }
 
+/* A list of titles more, which has none. */
+static void add_list(struct luck *luck, struct made_file *file)
+{
+    bytes_add(&new_chunk(file, "LIST")->data, "adtl", 4);
+    swap_chunks(file, file->chunk_count - 1, luck_below(luck, (uint32_t)file->chunk_count));
+}
+
 static void resize_chunk(struct luck *luck, struct bytes *data)
 {
     uint32_t count = (uint32_t)data->count;
@@ -202,7 +242,13 @@ void disturb_chunks(struct luck *luck, struct made_file *file)
     if (file->chunk_count < 2 || file->chunk_count + 1 >= MOST_CHUNKS)
         return;
     size_t place = luck_below(luck, (uint32_t)file->chunk_count);
-    switch (luck_below(luck, 8)) {
+    size_t list = list_place(file);
+    if (list < file->chunk_count && luck_one_in(luck, 3)) {
+        disturb_list(luck, &file->chunks[list].data);
+        lay_out(luck, file);
+        return;
+    }
+    switch (luck_below(luck, 9)) {
     case 0:
         drop_chunk(file, place);
         break;
@@ -217,6 +263,9 @@ void disturb_chunks(struct luck *luck, struct made_file *file)
         break;
     case 4:
         add_wavl(luck, file);
+        break;
+    case 5:
+        add_list(luck, file);
         break;
     default:
         resize_chunk(luck, &file->chunks[place].data);
