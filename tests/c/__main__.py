@@ -109,12 +109,26 @@ def by_blocks(library, name, file, parts):
 
 def again(library, label, file):
     """What is written of a file that was read: its bytes, or the refusal of reading."""
-    record, sound = library.ask(label, 'read', WORDS + MORE, file), library.ask(label, 'sound', 2, file)
+    # The texts of a file are no longer than the file.
+    record = library.ask(label, 'read', (WORDS + MORE, len(file) + MORE), file)
+    sound = library.ask(label, 'sound', 2, file)
     if record.refusal:
         return record.refusal
     start = int.from_bytes(sound.buffer[:8], 'little')
-    made = library.ask(label, 'write', len(file) + MORE, record.buffer[:4 * WORDS], file[start:start + sound.n])
+    made = library.ask(label, 'write', len(file) + MORE, record.buffer[:4 * WORDS], record.titles,
+                       file[start:start + sound.n])
     return made.buffer[:made.n]
+
+
+def lent_titles(library, label, file):
+    """A file with titles is read into just enough bytes for them, into one too few, into none, and with a word of the
+    record too few."""
+    try:
+        need = len(second_reader.placed(second_reader.titles(file))[1])
+    except second_reader.Refused:
+        return
+    for words, room in ((WORDS, need), (WORDS, need - 1), (WORDS, 0), (WORDS - 1, need)) if need else ():
+        library.ask(f'{label}, {words} words and {room} of {need} bytes for titles', 'read', (words, room), file)
 
 
 def written(library):
@@ -182,6 +196,7 @@ def songs_on_sides(library):
 def all_calls(library, label, file):
     """Whatever a file is: it is read, written again, decoded whole and by its last block, and added."""
     again(library, label, file)
+    lent_titles(library, label, file)
     added(library, label, file)
     try:
         (_, channels, _, _, align, samples), frames, _, _, _, sound = second_reader.read(file)
@@ -195,6 +210,7 @@ def all_files(count, seed):
     """All files of tests/data, those at the borders of the rules for reading, and generated ones, each with a label."""
     yield from others.files_in(REPORTED, HEARD, CODED, WRITTEN).items()
     yield from ((label, file) for label, file, _ in wave_files.all_files())
+    yield 'the most titles and the longest texts', wave_files.most_titles()
     yield from ((f'generated file {place}', file) for place, file in enumerate(many_files.files(count, seed)))
 
 
@@ -205,7 +221,7 @@ def main(count=2000, seed=1):
             part(library)
         for label, file in all_files(int(count), int(seed)):
             all_calls(library, label, file)
-        expect('the refusals that were met, and 0', sorted(library.answers), list(range(21)))
+        expect('the refusals that were met, and 0', sorted(library.answers), list(range(22)))
     print(f'request: {sum(library.answers.values())} answers, {library.answers[0]} accepted, refused',
           *(f'{number}: {count}' for number, count in sorted(library.answers.items()) if number))
     return report('tests/c')

@@ -1,5 +1,5 @@
 /* The C test host: calls each function of tronalhet.h and checks what it gives against values worked out
- * by hand from document 01. */
+ * by hand from documents 01 and 02. */
 #include "tronalhet.h"
 
 #include <stdbool.h>
@@ -31,6 +31,22 @@ static const uint8_t cue_file[112] = {
     7, 0, 0, 0, 9, 0, 0, 0, 'd', 'a', 't', 'a', 0, 0, 0, 0, 0, 0, 0, 0, 1, 0, 0, 0,
     'p', 'l', 's', 't', 16, 0, 0, 0, 1, 0, 0, 0, 7, 0, 0, 0, 3, 0, 0, 0, 2, 0, 0, 0,
     'd', 'a', 't', 'a', 8, 0, 0, 0, 1, 0, 0xFF, 0xFF, 0xFF, 0x7F, 0, 0x80};
+
+/* The same file with the list of its titles between plst and data: a label and a note of the cue. */
+static const uint8_t title_file[158] = {
+    'R', 'I', 'F', 'F', 150, 0, 0, 0, 'W', 'A', 'V', 'E',
+    'f', 'm', 't', ' ', 16, 0, 0, 0, 1, 0, 1, 0, 0x40, 0x1F, 0, 0, 0x80, 0x3E, 0, 0, 2, 0, 16, 0,
+    'c', 'u', 'e', ' ', 28, 0, 0, 0, 1, 0, 0, 0,
+    7, 0, 0, 0, 9, 0, 0, 0, 'd', 'a', 't', 'a', 0, 0, 0, 0, 0, 0, 0, 0, 1, 0, 0, 0,
+    'p', 'l', 's', 't', 16, 0, 0, 0, 1, 0, 0, 0, 7, 0, 0, 0, 3, 0, 0, 0, 2, 0, 0, 0,
+    'L', 'I', 'S', 'T', 38, 0, 0, 0, 'a', 'd', 't', 'l',
+    'l', 'a', 'b', 'l', 9, 0, 0, 0, 7, 0, 0, 0, 'S', 'o', 'n', 'g', 0, 0,
+    'n', 'o', 't', 'e', 8, 0, 0, 0, 7, 0, 0, 0, 'a', 'b', 'c', 0,
+    'd', 'a', 't', 'a', 8, 0, 0, 0, 1, 0, 0xFF, 0xFF, 0xFF, 0x7F, 0, 0x80};
+
+/* Its texts as they are stored, and the words of its titles. */
+static const uint8_t title_texts[9] = {'S', 'o', 'n', 'g', 0, 'a', 'b', 'c', 0};
+static const uint32_t title_words[9] = {2, 0, 7, 0, 4, 1, 7, 5, 3};
 
 /* The printed IMA block, mono, align 12, 17 frames. The average is 8000 x 12 / 17 = 5647. */
 static const uint8_t ima_file[72] = {
@@ -81,6 +97,17 @@ static const uint8_t side_of_one[108] = {
     5, 0, 0, 0, 0, 0, 0, 0, 'd', 'a', 't', 'a', 0, 0, 0, 0, 0, 0, 0, 0, 0, 0, 0, 0,
     'p', 'l', 's', 't', 16, 0, 0, 0, 1, 0, 0, 0, 5, 0, 0, 0, 2, 0, 0, 0, 1, 0, 0, 0,
     'd', 'a', 't', 'a', 4, 0, 0, 0, 1, 0, 2, 0};
+
+/* The same side with a label of its song, the list of which stands behind the sound. */
+static const uint8_t labelled_side[136] = {
+    'R', 'I', 'F', 'F', 128, 0, 0, 0, 'W', 'A', 'V', 'E',
+    'f', 'm', 't', ' ', 16, 0, 0, 0, 1, 0, 1, 0, 0x40, 0x1F, 0, 0, 0x80, 0x3E, 0, 0, 2, 0, 16, 0,
+    'c', 'u', 'e', ' ', 28, 0, 0, 0, 1, 0, 0, 0,
+    5, 0, 0, 0, 0, 0, 0, 0, 'd', 'a', 't', 'a', 0, 0, 0, 0, 0, 0, 0, 0, 0, 0, 0, 0,
+    'p', 'l', 's', 't', 16, 0, 0, 0, 1, 0, 0, 0, 5, 0, 0, 0, 2, 0, 0, 0, 1, 0, 0, 0,
+    'd', 'a', 't', 'a', 4, 0, 0, 0, 1, 0, 2, 0,
+    'L', 'I', 'S', 'T', 20, 0, 0, 0, 'a', 'd', 't', 'l', 'l', 'a', 'b', 'l', 8, 0, 0, 0, 5, 0, 0, 0,
+    'O', 'n', 'e', 0};
 
 /* A change that makes a file refused: bytes put at a place; its line here names it where it fails. */
 struct fault {
@@ -138,21 +165,65 @@ static const struct fault ima_faults[] = {
     {__LINE__, 11, 48, 4, "\xFF\xFF\xFF\xFF"},
 };
 
+/* Faults of title_file: the list stands at 96, the label at 108, its text at 120, the note at 126, its text
+ * at 138. */
+static const struct fault title_faults[] = {
+    {__LINE__, 4, 100, 4, "\xFF\xFF\xFF\x7F"},
+    {__LINE__, 7, 104, 4, "wavl"},
+    {__LINE__, 12, 68, 1, "\x04"},
+    {__LINE__, 13, 88, 1, "\x04"},
+    {__LINE__, 13, 48, 1, "\x08"},
+    {__LINE__, 21, 108, 4, "note"},
+    {__LINE__, 21, 112, 1, "\0"},
+    {__LINE__, 21, 112, 1, "\x04"},
+    {__LINE__, 21, 112, 1, "\x08"},
+    {__LINE__, 21, 112, 1, "\x0A"},
+    {__LINE__, 21, 112, 4, "\xFF\xFF\xFF\xFF"},
+    {__LINE__, 21, 112, 4, "\xF8\xFF\xFF\xFF"},
+    {__LINE__, 21, 116, 1, "\x08"},
+    {__LINE__, 21, 119, 1, "\x01"},
+    {__LINE__, 21, 120, 1, "\0"},
+    {__LINE__, 21, 122, 1, "\0"},
+    {__LINE__, 21, 124, 1, "x"},
+    {__LINE__, 21, 126, 4, "labl"},
+    {__LINE__, 21, 130, 1, "\x07"},
+    {__LINE__, 21, 130, 1, "\x09"},
+    {__LINE__, 21, 130, 1, "\x0A"},
+    {__LINE__, 21, 134, 1, "\x06"},
+    {__LINE__, 21, 140, 1, "\0"},
+    {__LINE__, 21, 141, 1, "x"},
+};
+
 static void put_fault(uint8_t *file, const struct fault *fault)
 {
     memcpy(file + fault->place, fault->bytes, fault->count);
 }
 
-/* The one buffer that the refused calls get. */
+/* The buffers that the refused calls get. */
 static uint8_t out[ROOM];
 static int16_t samples_out[ROOM];
 static uint32_t record_out[WORDS + 1];
+static uint8_t titles_out[ROOM];
+
+/* Reads a file, with the buffer for titles lent. */
+static uint32_t read_file(const uint8_t *file, size_t bytes, uint32_t *record, size_t words)
+{
+    return tronalhet_read(file, bytes, record, words, titles_out, ROOM);
+}
+
+/* Writes a file without titles. */
+static tronalhet_answer write_file(const uint32_t *record, size_t words, const uint8_t *sound,
+                                   size_t sound_bytes, uint8_t *file, size_t room)
+{
+    return tronalhet_write(record, words, NULL, 0, sound, sound_bytes, file, room);
+}
 
 static void fill_buffers(void)
 {
     memset(out, FILL, sizeof out);
     memset(samples_out, FILL, sizeof samples_out);
     memset(record_out, FILL, sizeof record_out);
+    memset(titles_out, FILL, sizeof titles_out);
 }
 
 static bool is_filled(const void *from, size_t bytes)
@@ -168,7 +239,7 @@ static bool is_filled(const void *from, size_t bytes)
 static bool buffers_are_untouched(void)
 {
     return is_filled(out, sizeof out) && is_filled(samples_out, sizeof samples_out) &&
-           is_filled(record_out, sizeof record_out);
+           is_filled(record_out, sizeof record_out) && is_filled(titles_out, sizeof titles_out);
 }
 
 static bool refuses(tronalhet_answer answer, uint32_t refusal)
@@ -189,7 +260,7 @@ static bool gives(tronalhet_answer answer, size_t n)
 /* A file once more, since buffers that are lent together do not overlap. */
 static const uint8_t *copy_of(const uint8_t *file, size_t bytes)
 {
-    static uint8_t copy[112];
+    static uint8_t copy[158];
     if (bytes > 0)
         memcpy(copy, file, bytes);
     return copy;
@@ -200,8 +271,8 @@ static void check_refused_file(const uint8_t *file, size_t bytes, uint32_t refus
 {
     size_t start = 77;
     fill_buffers();
-    check(tronalhet_read(file, bytes, record_out, WORDS + 1) == refusal, line, "read refuses the file");
-    check(tronalhet_read(file, bytes, NULL, 0) == refusal, line, "read refuses the file before 14");
+    check(read_file(file, bytes, record_out, WORDS + 1) == refusal, line, "read refuses the file");
+    check(tronalhet_read(file, bytes, NULL, 0, NULL, 0) == refusal, line, "read refuses the file before 14");
     check(refuses(tronalhet_sound(file, bytes, &start, 1), refusal), line, "sound refuses the file");
     check(refuses(tronalhet_sound(file, bytes, NULL, 0), refusal), line, "sound refuses the file before 14");
     check(start == 77, line, "sound keeps its start");
@@ -219,7 +290,7 @@ static void check_refused_file(const uint8_t *file, size_t bytes, uint32_t refus
 
 static void check_faults(void)
 {
-    uint8_t file[112];
+    uint8_t file[158];
     for (size_t i = 0; i < sizeof faults / sizeof faults[0]; i++) {
         memcpy(file, cue_file, sizeof cue_file);
         put_fault(file, &faults[i]);
@@ -229,6 +300,11 @@ static void check_faults(void)
         memcpy(file, ima_file, sizeof ima_file);
         put_fault(file, &ima_faults[i]);
         check_refused_file(file, sizeof ima_file, ima_faults[i].refusal, ima_faults[i].line);
+    }
+    for (size_t i = 0; i < sizeof title_faults / sizeof title_faults[0]; i++) {
+        memcpy(file, title_file, sizeof title_file);
+        put_fault(file, &title_faults[i]);
+        check_refused_file(file, sizeof title_file, title_faults[i].refusal, title_faults[i].line);
     }
     memcpy(file, cue_file, sizeof cue_file);
     check_refused_file(NULL, 0, 1, __LINE__);
@@ -257,18 +333,97 @@ static void check_read(void)
     uint32_t right[WORDS];
     fill_cue_record(right);
     fill_buffers();
-    CHECK(tronalhet_read(cue_file, 112, record_out, WORDS) == 0);
+    CHECK(read_file(cue_file, 112, record_out, WORDS) == 0);
     CHECK(memcmp(record_out, right, sizeof right) == 0);
     CHECK(is_filled(record_out + WORDS, sizeof record_out[0]));
     fill_buffers();
-    CHECK(tronalhet_read(cue_file, 112, record_out, WORDS + 1) == 0);
+    CHECK(read_file(cue_file, 112, record_out, WORDS + 1) == 0);
     CHECK(memcmp(record_out, right, sizeof right) == 0);
     CHECK(is_filled(record_out + WORDS, sizeof record_out[0]));
     fill_buffers();
-    CHECK(tronalhet_read(cue_file, 112, record_out, WORDS - 1) == 14);
-    CHECK(tronalhet_read(cue_file, 112, record_out, 0) == 14);
-    CHECK(tronalhet_read(cue_file, 112, NULL, 0) == 14);
+    CHECK(read_file(cue_file, 112, record_out, WORDS - 1) == 14);
+    CHECK(read_file(cue_file, 112, record_out, 0) == 14);
+    CHECK(read_file(cue_file, 112, NULL, 0) == 14);
     CHECK(buffers_are_untouched());
+    CHECK(tronalhet_read(cue_file, 112, record_out, WORDS, NULL, 0) == 0);
+    CHECK(memcmp(record_out, right, sizeof right) == 0);
+}
+
+/* The record of title_file is that of cue_file but for its titles. */
+static void fill_title_record(uint32_t *record)
+{
+    fill_cue_record(record);
+    memcpy(record + 393, title_words, sizeof title_words);
+}
+
+/* Texts are stored where both buffers suffice, and else nothing in either. */
+static void check_read_titles(void)
+{
+    uint32_t right[WORDS];
+    fill_title_record(right);
+    for (size_t room = 9; room <= 12; room++) {
+        fill_buffers();
+        CHECK(tronalhet_read(title_file, 158, record_out, WORDS, titles_out, room) == 0);
+        CHECK(memcmp(record_out, right, sizeof right) == 0);
+        CHECK(memcmp(titles_out, title_texts, sizeof title_texts) == 0);
+        CHECK(is_filled(titles_out + 9, sizeof titles_out - 9));
+    }
+    fill_buffers();
+    CHECK(tronalhet_read(title_file, 158, record_out, WORDS, titles_out, 8) == 14);
+    CHECK(tronalhet_read(title_file, 158, record_out, WORDS, titles_out, 0) == 14);
+    CHECK(tronalhet_read(title_file, 158, record_out, WORDS, NULL, 0) == 14);
+    CHECK(tronalhet_read(title_file, 158, record_out, WORDS - 1, titles_out, 9) == 14);
+    CHECK(tronalhet_read(title_file, 158, record_out, 393, titles_out, ROOM) == 14);
+    CHECK(tronalhet_read(title_file, 158, NULL, 0, titles_out, ROOM) == 14);
+    CHECK(tronalhet_read(title_file, 158, NULL, 0, NULL, 0) == 14);
+    CHECK(buffers_are_untouched());
+}
+
+/* Lists without titles, of another kind, with chunks that are skipped, and a pad of any value. */
+static void check_other_lists(void)
+{
+    uint8_t file[158];
+    uint32_t right[WORDS];
+    fill_cue_record(right);
+    memcpy(file, title_file, sizeof title_file);
+    memcpy(file + 104, "INFO", 4);
+    CHECK(tronalhet_read(file, 158, record_out, WORDS, NULL, 0) == 0);
+    CHECK(memcmp(record_out, right, sizeof right) == 0);
+    memcpy(file, title_file, sizeof title_file);
+    memcpy(file + 108, "ltxt", 4);
+    memcpy(file + 126, "file", 4);
+    CHECK(tronalhet_read(file, 158, record_out, WORDS, NULL, 0) == 0);
+    CHECK(memcmp(record_out, right, sizeof right) == 0);
+    memcpy(file + 126, "note", 4);
+    file[125] = 9;
+    fill_buffers();
+    CHECK(tronalhet_read(file, 158, record_out, WORDS, titles_out, 4) == 0);
+    right[393] = 1;
+    memcpy(right + 394, ((const uint32_t[]){1, 7, 0, 3}), 4 * sizeof right[0]);
+    CHECK(memcmp(record_out, right, sizeof right) == 0);
+    CHECK(memcmp(titles_out, "abc", 4) == 0 && is_filled(titles_out + 4, sizeof titles_out - 4));
+}
+
+/* A label at the file's end lacks its pad, where the list lacks its own: 109 bytes; not where there is one
+ * more byte, the pad of the list. */
+static void check_titles_without_pad(void)
+{
+    uint8_t file[110] = {
+        'R', 'I', 'F', 'F', 101, 0, 0, 0, 'W', 'A', 'V', 'E',
+        'f', 'm', 't', ' ', 16, 0, 0, 0, 1, 0, 1, 0, 0x40, 0x1F, 0, 0, 0x40, 0x1F, 0, 0, 1, 0, 8, 0,
+        'd', 'a', 't', 'a', 1, 0, 0, 0, 200, 0,
+        'c', 'u', 'e', ' ', 28, 0, 0, 0, 1, 0, 0, 0,
+        7, 0, 0, 0, 0, 0, 0, 0, 'd', 'a', 't', 'a', 0, 0, 0, 0, 0, 0, 0, 0, 0, 0, 0, 0,
+        'L', 'I', 'S', 'T', 19, 0, 0, 0, 'a', 'd', 't', 'l',
+        'l', 'a', 'b', 'l', 7, 0, 0, 0, 7, 0, 0, 0, 'a', 'b', 0};
+    CHECK(read_file(file, 109, record_out, WORDS) == 0);
+    CHECK(record_out[393] == 1 && record_out[396] == 0 && record_out[397] == 2);
+    CHECK(memcmp(titles_out, "ab", 3) == 0);
+    file[4] = 102;
+    check_refused_file(file, 110, 21, __LINE__);
+    file[86] = 20;
+    CHECK(read_file(file, 110, record_out, WORDS) == 0);
+    CHECK(record_out[393] == 1 && record_out[397] == 2);
 }
 
 static void check_read_formats(void)
@@ -277,11 +432,11 @@ static void check_read_formats(void)
     const uint32_t microsoft[9] = {2, 1, 8000, 4, 8, 4, 4, 0, 0};
     const uint32_t stereo[9] = {1, 2, 8000, 8, 2, 1, 1, 0, 0};
     const uint32_t zeros[WORDS - 9] = {0};
-    CHECK(tronalhet_read(ima_file, 72, record_out, WORDS) == 0);
+    CHECK(read_file(ima_file, 72, record_out, WORDS) == 0);
     CHECK(memcmp(record_out, ima, sizeof ima) == 0);
-    CHECK(tronalhet_read(microsoft_file, 98, record_out, WORDS) == 0);
+    CHECK(read_file(microsoft_file, 98, record_out, WORDS) == 0);
     CHECK(memcmp(record_out, microsoft, sizeof microsoft) == 0);
-    CHECK(tronalhet_read(stereo_file, 56, record_out, WORDS) == 0);
+    CHECK(read_file(stereo_file, 56, record_out, WORDS) == 0);
     CHECK(memcmp(record_out, stereo, sizeof stereo) == 0);
     CHECK(memcmp(record_out + 9, zeros, sizeof zeros) == 0);
 }
@@ -292,7 +447,7 @@ static void check_places(void)
     const uint32_t *cue = record_out + TRONALHET_FIRST_CUE;
     const uint32_t *entry = record_out + TRONALHET_FIRST_ENTRY;
     uint8_t file[112];
-    CHECK(tronalhet_read(cue_file, 112, record_out, WORDS) == TRONALHET_ACCEPTED);
+    CHECK(read_file(cue_file, 112, record_out, WORDS) == TRONALHET_ACCEPTED);
     CHECK(record_out[TRONALHET_TAG] == TRONALHET_PCM && record_out[TRONALHET_BITS] == 16);
     CHECK(record_out[TRONALHET_CUES] == 1 && record_out[TRONALHET_ENTRIES] == 1);
     CHECK(cue[TRONALHET_CUE_NAME] == 7 && cue[TRONALHET_CUE_POSITION] == 9 && cue[TRONALHET_CUE_PLACE] == 1);
@@ -300,25 +455,35 @@ static void check_places(void)
     CHECK(entry[TRONALHET_ENTRY_TIMES] == 2);
     memcpy(file, cue_file, sizeof cue_file);
     memcpy(file + 72, "skip", 4);
-    CHECK(tronalhet_read(file, 112, record_out, WORDS) == TRONALHET_ACCEPTED);
+    CHECK(read_file(file, 112, record_out, WORDS) == TRONALHET_ACCEPTED);
     CHECK(record_out[TRONALHET_CUES] == 1 && record_out[TRONALHET_ENTRIES] == 0);
     memcpy(file, ima_file, sizeof ima_file);
     file[48] = 5;
-    CHECK(tronalhet_read(file, 72, record_out, WORDS) == TRONALHET_ACCEPTED);
+    CHECK(read_file(file, 72, record_out, WORDS) == TRONALHET_ACCEPTED);
     CHECK(record_out[TRONALHET_TAG] == TRONALHET_IMA && record_out[TRONALHET_CHANNELS] == 1);
     CHECK(record_out[TRONALHET_RATE] == 8000 && record_out[TRONALHET_BITS] == 4);
     CHECK(record_out[TRONALHET_ALIGN] == 12 && record_out[TRONALHET_SAMPLES] == 17);
     CHECK(record_out[TRONALHET_FRAMES] == 5 && record_out[TRONALHET_CUES] == 0);
-    CHECK(tronalhet_read(microsoft_file, 98, record_out, WORDS) == TRONALHET_ACCEPTED);
+    CHECK(read_file(microsoft_file, 98, record_out, WORDS) == TRONALHET_ACCEPTED);
     CHECK(record_out[TRONALHET_TAG] == TRONALHET_MICROSOFT && record_out[TRONALHET_SAMPLES] == 4);
+    const uint32_t *note = record_out + TRONALHET_FIRST_TITLE + TRONALHET_TITLE_WORDS;
+    CHECK(read_file(title_file, 158, record_out, WORDS) == TRONALHET_ACCEPTED);
+    CHECK(record_out[TRONALHET_TITLES] == 2);
+    CHECK(record_out[TRONALHET_FIRST_TITLE + TRONALHET_TITLE_KIND] == TRONALHET_LABEL);
+    CHECK(note[TRONALHET_TITLE_KIND] == TRONALHET_NOTE && note[TRONALHET_TITLE_NAME] == 7);
+    CHECK(note[TRONALHET_TITLE_START] == 5 && note[TRONALHET_TITLE_LENGTH] == 3);
 }
 
-/* The last cue and the last entry are those before what comes next, and the version is its three numbers. */
+/* The last cue, entry and title are those before what comes next, and the version is its three numbers. */
 static void check_counts(void)
 {
     char version[32];
     CHECK(TRONALHET_FIRST_CUE + TRONALHET_CUE_WORDS * TRONALHET_MOST_ENTRIES == TRONALHET_FIRST_ENTRY);
-    CHECK(TRONALHET_FIRST_ENTRY + TRONALHET_ENTRY_WORDS * TRONALHET_MOST_ENTRIES == TRONALHET_RECORD_WORDS);
+    CHECK(TRONALHET_FIRST_ENTRY + TRONALHET_ENTRY_WORDS * TRONALHET_MOST_ENTRIES == TRONALHET_TITLES);
+    CHECK(TRONALHET_TITLES + 1 == TRONALHET_FIRST_TITLE);
+    CHECK(TRONALHET_FIRST_TITLE + TRONALHET_TITLE_WORDS * TRONALHET_MOST_TITLES == TRONALHET_RECORD_WORDS);
+    CHECK(TRONALHET_MOST_TITLES == 2 * TRONALHET_MOST_ENTRIES);
+    CHECK(TRONALHET_MOST_TITLE_BYTES == 256 * TRONALHET_MOST_TITLES);
     snprintf(version, sizeof version, "%d.%d.%d", TRONALHET_VERSION_MAJOR, TRONALHET_VERSION_MINOR,
              TRONALHET_VERSION_PATCH);
     CHECK(strcmp(version, TRONALHET_VERSION) == 0);
@@ -337,6 +502,8 @@ static void check_sound(void)
     CHECK(start[0] == 54);
     CHECK(gives(tronalhet_sound(empty_side, 44, start, 1), 0));
     CHECK(start[0] == 44);
+    CHECK(gives(tronalhet_sound(title_file, 158, start, 1), 8));
+    CHECK(start[0] == 150);
     start[0] = 77;
     CHECK(refuses(tronalhet_sound(cue_file, 112, start, 0), 14));
     CHECK(refuses(tronalhet_sound(cue_file, 112, NULL, 0), 14));
@@ -349,9 +516,10 @@ static void check_written_again(const uint8_t *file, size_t bytes, int line)
     uint32_t record[WORDS];
     size_t start = 0;
     fill_buffers();
-    check(tronalhet_read(file, bytes, record, WORDS) == 0, line, "the file is read");
+    check(read_file(file, bytes, record, WORDS) == 0, line, "the file is read");
     tronalhet_answer sound = tronalhet_sound(file, bytes, &start, 1);
-    tronalhet_answer answer = tronalhet_write(record, WORDS, file + start, sound.n, out, bytes);
+    tronalhet_answer answer =
+        tronalhet_write(record, WORDS, titles_out, ROOM, file + start, sound.n, out, bytes);
     check(gives(answer, bytes), line, "the file is written again");
     check(memcmp(out, file, bytes) == 0, line, "the written file is the same");
     check(is_filled(out + bytes, sizeof out - bytes), line, "the rest of the buffer is untouched");
@@ -365,19 +533,22 @@ static void check_write(void)
     fill_cue_record(record);
     record[WORDS] = 4;
     fill_buffers();
-    CHECK(gives(tronalhet_write(record, WORDS, sound, 8, out, ROOM), 112));
+    CHECK(gives(write_file(record, WORDS, sound, 8, out, ROOM), 112));
     CHECK(memcmp(out, cue_file, 112) == 0);
     CHECK(is_filled(out + 112, sizeof out - 112));
-    CHECK(tronalhet_read(out, 112, again, WORDS) == 0);
+    CHECK(read_file(out, 112, again, WORDS) == 0);
     CHECK(memcmp(again, record, sizeof again) == 0);
     record[12] = 1;
     record[200] = 4;
     record[204] = 1;
     record[392] = 4;
+    record[394] = 2;
+    record[905] = 4;
     fill_buffers();
-    CHECK(gives(tronalhet_write(record, WORDS + 1, sound, 8, out, 112), 112));
+    CHECK(gives(write_file(record, WORDS + 1, sound, 8, out, 112), 112));
     CHECK(memcmp(out, cue_file, 112) == 0);
     check_written_again(cue_file, 112, __LINE__);
+    check_written_again(title_file, 158, __LINE__);
     check_written_again(ima_file, 72, __LINE__);
     check_written_again(microsoft_file, 98, __LINE__);
     check_written_again(empty_side, 44, __LINE__);
@@ -393,14 +564,14 @@ static void check_write_odd(void)
     uint8_t sound = 200;
     memcpy(record, start, sizeof start);
     fill_buffers();
-    CHECK(refuses(tronalhet_write(record, WORDS, &sound, 1, out, 45), 14));
+    CHECK(refuses(write_file(record, WORDS, &sound, 1, out, 45), 14));
     CHECK(buffers_are_untouched());
-    CHECK(gives(tronalhet_write(record, WORDS, &sound, 1, out, 46), 46));
+    CHECK(gives(write_file(record, WORDS, &sound, 1, out, 46), 46));
     CHECK(memcmp(out + 36, right, sizeof right) == 0);
     CHECK(is_filled(out + 46, sizeof out - 46));
     record[6] = 0;
     fill_buffers();
-    CHECK(gives(tronalhet_write(record, WORDS, NULL, 0, out, 46), 44));
+    CHECK(gives(write_file(record, WORDS, NULL, 0, out, 46), 44));
     CHECK(is_filled(out + 44, sizeof out - 44));
 }
 
@@ -414,18 +585,18 @@ static void check_read_without_pad(void)
         'd', 'a', 't', 'a', 1, 0, 0, 0, 200};
     uint32_t record[WORDS];
     size_t place = 0;
-    CHECK(tronalhet_read(file, sizeof file, record, WORDS) == 0);
+    CHECK(read_file(file, sizeof file, record, WORDS) == 0);
     CHECK(memcmp(record, start, sizeof start) == 0);
     CHECK(gives(tronalhet_sound(file, sizeof file, &place, 1), 1));
     CHECK(place == 44);
     fill_buffers();
     CHECK(gives(tronalhet_decode(file, sizeof file, samples_out, 1), 1));
     CHECK(samples_out[0] == 18432);
-    CHECK(gives(tronalhet_write(record, WORDS, file + place, 1, out, 46), 46));
+    CHECK(gives(write_file(record, WORDS, file + place, 1, out, 46), 46));
     CHECK(out[4] == 38 && out[45] == 0);
     CHECK(memcmp(out + 8, file + 8, 37) == 0);
     file[4] = 38;
-    CHECK(tronalhet_read(file, sizeof file, record, WORDS) == 3);
+    CHECK(read_file(file, sizeof file, record, WORDS) == 3);
 }
 
 /* One word of cue_file's record changed, with the refusal that this gives. */
@@ -479,25 +650,111 @@ static void check_write_refusals(void)
         const struct word_fault *fault = &word_faults[i];
         fill_cue_record(record);
         record[fault->place] = fault->value;
-        tronalhet_answer answer = tronalhet_write(record, WORDS, sound, 8, out, ROOM);
+        tronalhet_answer answer = write_file(record, WORDS, sound, 8, out, ROOM);
         check(refuses(answer, fault->refusal), fault->line, "write refuses the word");
-        answer = tronalhet_write(record, WORDS, sound, 8, NULL, 0);
+        answer = write_file(record, WORDS, sound, 8, NULL, 0);
         check(refuses(answer, fault->refusal), fault->line, "write refuses the word before 14");
     }
     fill_cue_record(record);
-    CHECK(refuses(tronalhet_write(NULL, 0, sound, 8, out, ROOM), 9));
-    CHECK(refuses(tronalhet_write(record, 0, sound, 8, out, ROOM), 9));
-    CHECK(refuses(tronalhet_write(record, WORDS - 1, sound, 8, out, ROOM), 9));
-    CHECK(refuses(tronalhet_write(record, WORDS, sound, 7, out, ROOM), 10));
-    CHECK(refuses(tronalhet_write(record, WORDS, sound, 6, out, ROOM), 11));
-    CHECK(refuses(tronalhet_write(record, WORDS, NULL, 0, out, ROOM), 11));
-    CHECK(refuses(tronalhet_write(record, WORDS, sound, 8, out, 111), 14));
-    CHECK(refuses(tronalhet_write(record, WORDS, sound, 8, out, 0), 14));
-    CHECK(refuses(tronalhet_write(record, WORDS, sound, 8, NULL, 0), 14));
+    CHECK(refuses(write_file(NULL, 0, sound, 8, out, ROOM), 9));
+    CHECK(refuses(write_file(record, 0, sound, 8, out, ROOM), 9));
+    CHECK(refuses(write_file(record, WORDS - 1, sound, 8, out, ROOM), 9));
+    CHECK(refuses(write_file(record, WORDS, sound, 7, out, ROOM), 10));
+    CHECK(refuses(write_file(record, WORDS, sound, 6, out, ROOM), 11));
+    CHECK(refuses(write_file(record, WORDS, NULL, 0, out, ROOM), 11));
+    CHECK(refuses(write_file(record, WORDS, sound, 8, out, 111), 14));
+    CHECK(refuses(write_file(record, WORDS, sound, 8, out, 0), 14));
+    CHECK(refuses(write_file(record, WORDS, sound, 8, NULL, 0), 14));
     record[10] = 4294967295u;
     record[7] = 2;
     record[12] = 7;
-    CHECK(refuses(tronalhet_write(record, WORDS, sound, 8, out, ROOM), 12));
+    CHECK(refuses(write_file(record, WORDS, sound, 8, out, ROOM), 12));
+    CHECK(buffers_are_untouched());
+}
+
+/* One word of title_file's record changed, so that its titles are not as reading gives them. */
+static const struct word_fault title_word_faults[] = {
+    {__LINE__, 21, 393, 3},
+    {__LINE__, 21, 393, 129},
+    {__LINE__, 21, 393, 4294967295u},
+    {__LINE__, 21, 394, 1},
+    {__LINE__, 21, 394, 2},
+    {__LINE__, 21, 394, 4294967295u},
+    {__LINE__, 21, 395, 8},
+    {__LINE__, 21, 395, 0},
+    {__LINE__, 21, 396, 1},
+    {__LINE__, 21, 396, 4294967295u},
+    {__LINE__, 21, 397, 3},
+    {__LINE__, 21, 397, 5},
+    {__LINE__, 21, 397, 8},
+    {__LINE__, 21, 397, 256},
+    {__LINE__, 21, 397, 4294967295u},
+    {__LINE__, 21, 398, 0},
+    {__LINE__, 21, 398, 256},
+    {__LINE__, 21, 399, 6},
+    {__LINE__, 21, 400, 0},
+    {__LINE__, 21, 400, 4},
+    {__LINE__, 21, 400, 6},
+    {__LINE__, 21, 401, 2},
+    {__LINE__, 21, 401, 4},
+    {__LINE__, 21, 401, 4294967295u},
+    {__LINE__, 13, 201, 8},
+    {__LINE__, 12, 11, 4},
+};
+
+/* Writes title_file's record with one word changed, or with other texts. */
+static tronalhet_answer write_titles(const struct word_fault *fault, const uint8_t *texts, size_t text_bytes,
+                                     uint8_t *to, size_t room)
+{
+    uint32_t record[WORDS];
+    fill_title_record(record);
+    if (fault != NULL)
+        record[fault->place] = fault->value;
+    return tronalhet_write(record, WORDS, texts, text_bytes, title_file + 150, 8, to, room);
+}
+
+/* Titles are written between plst and data; what stands behind their texts, and words past their count, is no
+ * part of them. */
+static void check_write_titles(void)
+{
+    const uint8_t longer[12] = {'S', 'o', 'n', 'g', 0, 'a', 'b', 'c', 0, 'x', 0, 0};
+    const struct word_fault past = {__LINE__, 0, 402, 5};
+    const struct word_fault fewer = {__LINE__, 0, 393, 1};
+    const uint8_t label[24] = {'L', 'I', 'S', 'T', 22, 0, 0, 0, 'a', 'd', 't', 'l',
+                               'l', 'a', 'b', 'l', 9,  0, 0, 0, 7,   0,   0,   0};
+    fill_buffers();
+    CHECK(gives(write_titles(NULL, title_texts, 9, out, 158), 158));
+    CHECK(memcmp(out, title_file, 158) == 0);
+    CHECK(is_filled(out + 158, sizeof out - 158));
+    CHECK(gives(write_titles(&past, longer, 12, out, ROOM), 158));
+    CHECK(memcmp(out, title_file, 158) == 0);
+    CHECK(gives(write_titles(&fewer, title_texts, 5, out, ROOM), 142));
+    CHECK(memcmp(out + 96, label, sizeof label) == 0);
+    CHECK(memcmp(out + 120, "Song\0\0data", 10) == 0);
+}
+
+static void check_write_title_refusals(void)
+{
+    uint8_t texts[9];
+    fill_buffers();
+    for (size_t i = 0; i < sizeof title_word_faults / sizeof title_word_faults[0]; i++) {
+        const struct word_fault *fault = &title_word_faults[i];
+        check(refuses(write_titles(fault, title_texts, 9, out, ROOM), fault->refusal), fault->line,
+              "write refuses the title");
+        check(refuses(write_titles(fault, title_texts, 9, NULL, 0), fault->refusal), fault->line,
+              "write refuses the title before 14");
+    }
+    CHECK(refuses(write_titles(NULL, title_texts, 8, out, ROOM), 21));
+    CHECK(refuses(write_titles(NULL, title_texts, 5, out, ROOM), 21));
+    CHECK(refuses(write_titles(NULL, title_texts, 0, out, ROOM), 21));
+    CHECK(refuses(write_titles(NULL, NULL, 0, out, ROOM), 21));
+    for (size_t i = 0; i < 9; i++) {
+        memcpy(texts, title_texts, 9);
+        texts[i] = texts[i] == 0 ? 'x' : 0;
+        CHECK(refuses(write_titles(NULL, texts, 9, out, ROOM), 21));
+    }
+    CHECK(refuses(write_titles(NULL, title_texts, 9, out, 157), 14));
+    CHECK(refuses(write_titles(NULL, title_texts, 9, NULL, 0), 14));
     CHECK(buffers_are_untouched());
 }
 
@@ -521,6 +778,7 @@ static void check_decode(void)
     const int16_t microsoft_samples[4] = {50, 100, 116, 100};
     uint8_t file[98];
     check_decoded(cue_file, 112, cue_samples, 4, 4, __LINE__);
+    check_decoded(title_file, 158, cue_samples, 4, 4, __LINE__);
     check_decoded(stereo_file, 56, stereo_samples, 2, 1, __LINE__);
     check_decoded(ima_file, 72, ima_samples, 17, 17, __LINE__);
     check_decoded(microsoft_file, 98, microsoft_samples, 4, 4, __LINE__);
@@ -700,7 +958,7 @@ static void check_second_song(void)
     fill_buffers();
     CHECK(gives(tronalhet_add(side_of_one, 108, song_file, 48, 6, 4, out, 148), 148));
     CHECK(is_filled(out + 148, sizeof out - 148));
-    CHECK(tronalhet_read(out, 148, record_out, WORDS) == 0);
+    CHECK(read_file(out, 148, record_out, WORDS) == 0);
     CHECK(memcmp(record_out, start, sizeof start) == 0);
     CHECK(memcmp(record_out + 201, entries, sizeof entries) == 0);
     CHECK(gives(tronalhet_sound(out, 148, &place, 1), 8));
@@ -733,6 +991,30 @@ static void check_add(void)
     CHECK(refuses(tronalhet_add(NULL, 0, song_file, 48, 5, 2, out, ROOM), 19));
     CHECK(refuses(tronalhet_add(empty_side, 44, NULL, 0, 5, 2, out, ROOM), 1));
     CHECK(refuses(tronalhet_add(NULL, 0, NULL, 0, 5, 2, NULL, 0), 1));
+    CHECK(buffers_are_untouched());
+}
+
+/* The side keeps its titles, which go between plst and data, and takes none of the song's. */
+static void check_add_titles(void)
+{
+    fill_buffers();
+    CHECK(gives(tronalhet_add(labelled_side, 136, song_file, 48, 6, 4, out, 176), 176));
+    CHECK(is_filled(out + 176, sizeof out - 176));
+    CHECK(memcmp(out + 132, labelled_side + 108, 28) == 0);
+    CHECK(read_file(out, 176, record_out, WORDS) == 0);
+    CHECK(record_out[7] == 2 && record_out[393] == 1 && record_out[395] == 5 && record_out[397] == 3);
+    CHECK(memcmp(titles_out, "One", 4) == 0);
+    fill_buffers();
+    CHECK(gives(tronalhet_add(empty_side, 44, title_file, 158, 7, 4, out, ROOM), 112));
+    CHECK(read_file(out, 112, record_out, WORDS) == 0);
+    CHECK(record_out[7] == 1 && record_out[393] == 0);
+    CHECK(is_filled(titles_out, sizeof titles_out));
+    CHECK(gives(tronalhet_add(labelled_side, 136, title_file, 158, 7, 6, out, ROOM), 180));
+    CHECK(memcmp(out + 132, labelled_side + 108, 28) == 0);
+    fill_buffers();
+    CHECK(refuses(tronalhet_add(labelled_side, 136, song_file, 48, 6, 4, out, 175), 14));
+    CHECK(refuses(tronalhet_add(labelled_side, 136, song_file, 48, 5, 4, out, ROOM), 18));
+    CHECK(refuses(tronalhet_add(labelled_side, 136, title_file, 158, 5, 4, out, ROOM), 16));
     CHECK(buffers_are_untouched());
 }
 
@@ -797,8 +1079,8 @@ static void check_too_long(void)
     CHECK(file != NULL);
     if (file == NULL)
         return;
-    CHECK(tronalhet_read(file, limit + 1, NULL, 0) == 1);
-    CHECK(tronalhet_read(file, limit, NULL, 0) == 2);
+    CHECK(read_file(file, limit + 1, NULL, 0) == 1);
+    CHECK(read_file(file, limit, NULL, 0) == 2);
     CHECK(tronalhet_encode((const int16_t *)(void *)file, samples + 1, 1, 8, NULL, 0).refusal == 1);
     CHECK(tronalhet_encode((const int16_t *)(void *)file, samples, 1, 8, NULL, 0).refusal == 14);
 
@@ -809,21 +1091,33 @@ static void check_too_long(void)
     memcpy(file + 4, size_of_riff, 4);
     memcpy(file + 40, size_of_data, 4);
     uint32_t record[WORDS];
-    CHECK(tronalhet_read(file, limit, record, WORDS) == 0);
+    CHECK(read_file(file, limit, record, WORDS) == 0);
     CHECK(record[6] == 536870890);
-    CHECK(tronalhet_write(record, WORDS, file, limit - 44, NULL, 0).refusal == 14);
+    CHECK(write_file(record, WORDS, file, limit - 44, NULL, 0).refusal == 14);
     CHECK(tronalhet_add(empty_side, sizeof empty_side, file, limit, 5, UINT32_MAX, NULL, 0).refusal == 1);
     record[6]++;
-    CHECK(tronalhet_write(record, WORDS, file, limit - 42, NULL, 0).refusal == 1);
+    CHECK(write_file(record, WORDS, file, limit - 42, NULL, 0).refusal == 1);
+
+    /* With a cue the file has just the limit's length; a label of it, 26 bytes with its list, is too much. */
+    const uint8_t text = 0;
+    record[6] = 536870872;
+    record[7] = 1;
+    CHECK(tronalhet_write(record, WORDS, &text, 1, file, limit - 80, NULL, 0).refusal == 14);
+    record[393] = 1;
+    CHECK(tronalhet_write(record, WORDS, &text, 1, file, limit - 80, NULL, 0).refusal == 1);
+    record[394] = 2;
+    CHECK(tronalhet_write(record, WORDS, &text, 1, file, limit - 80, NULL, 0).refusal == 21);
+    record[8] = 1;
+    CHECK(tronalhet_write(record, WORDS, &text, 1, file, limit - 80, NULL, 0).refusal == 13);
 
     /* The longest file without its pad, 8 bits a sample: with the pad it is as long as is accepted. */
     static const uint8_t eight_bits[8] = {0x40, 0x1F, 0, 0, 1, 0, 8, 0};
     memcpy(file + 28, eight_bits, sizeof eight_bits);
     file[4]--;
     file[40]--;
-    CHECK(tronalhet_read(file, limit - 1, record, WORDS) == 0);
+    CHECK(read_file(file, limit - 1, record, WORDS) == 0);
     CHECK(record[6] == 1073741779);
-    CHECK(tronalhet_write(record, WORDS, file, limit - 45, NULL, 0).refusal == 14);
+    CHECK(write_file(record, WORDS, file, limit - 45, NULL, 0).refusal == 14);
     free(file);
 }
 
@@ -831,6 +1125,9 @@ int main(void)
 {
     check_faults();
     check_read();
+    check_read_titles();
+    check_other_lists();
+    check_titles_without_pad();
     check_read_formats();
     check_places();
     check_counts();
@@ -839,6 +1136,8 @@ int main(void)
     check_write_odd();
     check_read_without_pad();
     check_write_refusals();
+    check_write_titles();
+    check_write_title_refusals();
     check_decode();
     check_decode_block();
     check_encode();
@@ -846,6 +1145,7 @@ int main(void)
     check_encode_refusals();
     check_empty();
     check_add();
+    check_add_titles();
     check_second_song();
     check_add_misfits();
     check_full_side();

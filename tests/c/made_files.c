@@ -139,7 +139,8 @@ static void fix_riff_size(struct bytes *bytes)
         bytes_put(bytes, 4, 4, (uint32_t)(bytes->count - 8));
 }
 
-/* The pad of an odd chunk may have any value, and that of the last may be absent. */
+/* The pad of an odd chunk may have any value, also one that would end a code, and that of the last may be
+ * absent. */
 static void lay_out(struct luck *luck, struct made_file *file)
 {
     struct bytes *bytes = &file->bytes;
@@ -153,7 +154,7 @@ static void lay_out(struct luck *luck, struct made_file *file)
         bytes_add(bytes, chunk->data.at, chunk->data.count);
         bool lost = i + 1 == file->chunk_count && luck_one_in(luck, 3);
         if (chunk->data.count % 2 == 1 && !lost) {
-            uint8_t pad = (uint8_t)PICK(luck, 0, 0, luck_word(luck));
+            uint8_t pad = (uint8_t)PICK(luck, 0, 0, 'l', luck_word(luck));
             bytes_add(bytes, &pad, 1);
         }
     }

@@ -14,11 +14,11 @@ from second.writer import Record
 from trying import ROOT, expect
 
 PROGRAM = ROOT / 'target' / 'c' / 'request'
-WORDS, FILL = 393, b'\xa5'
+WORDS, FILL = 906, b'\xa5'
 
-# The refusal, 0 where there is none, and the other numbers of a call; whether the bytes beside the lent buffer are as
-# they were; and all of the buffer after the call.
-Answer = namedtuple('Answer', 'refusal n left right kept buffer')
+# The refusal, 0 where there is none, and the other numbers of a call; whether the bytes beside the lent buffers are as
+# they were; and all of the buffers after the call, that of the output and that of titles.
+Answer = namedtuple('Answer', 'refusal n left right kept buffer titles')
 
 
 # ---- values as they travel
@@ -33,26 +33,35 @@ def pcm16(samples):
     return struct.pack(f'<{len(samples)}h', *samples)
 
 
-def words_of(form, frames, cues, plays):
-    """A record as words; the room past the two counts is zero."""
-    tables = [[number for entry in table for number in entry] for table in (cues, plays)]
-    padded = [number for table in tables for number in table + [0] * (192 - len(table))]
-    return struct.pack(f'<{WORDS}I', *form, frames, len(cues), len(plays), *padded)
+def flat(table, size):
+    """The numbers of a table one after the other, and zeros up to so many."""
+    numbers = [number for entry in table for number in entry]
+    return numbers + [0] * (size - len(numbers))
+
+
+def words_of(form, frames, cues, plays, titles=()):
+    """A record as words; the room past the three counts is zero."""
+    return struct.pack(f'<{WORDS}I', *form, frames, len(cues), len(plays), *flat(cues, 192), *flat(plays, 192),
+                       len(titles), *flat(titles, 512))
 
 
 def record_of(words):
     """The record that words are."""
     numbers = struct.unpack(f'<{WORDS}I', words)
-    cues, plays = ([numbers[at:at + 3] for at in range(start, start + 192, 3)] for start in (9, 201))
-    return Record(numbers[:6], numbers[6], numbers[7], cues, numbers[8], plays)
+    cues, plays, titles = ([numbers[at:at + size] for at in range(start, start + size * count, size)]
+                           for start, size, count in ((9, 3, 64), (201, 3, 64), (394, 4, 128)))
+    return Record(numbers[:6], numbers[6], numbers[7], cues, numbers[8], plays, numbers[393], titles)
 
 
-# ---- the second implementations: each gives what stands at the start of the lent buffer, and the numbers of the answer
+# ---- the second implementations: each gives what stands at the start of the lent buffer, and the numbers of the
+# answer; reading also what stands at the start of that for titles
 
-def read(room, file):
-    form, frames, cues, plays, _, _ = second_reader.read(file)
-    demand(room >= WORDS, 14)
-    return words_of(form, frames, cues, plays), 0
+def read(rooms, file):
+    form, frames, cues, plays, _, _, found = second_reader.read_all(file)
+    titles, texts = second_reader.placed(found)
+    room, title_room = rooms
+    demand(room >= WORDS and title_room >= len(texts), 14)
+    return words_of(form, frames, cues, plays, titles), 0, 0, 0, texts
 
 
 def sound(room, file):
@@ -67,8 +76,8 @@ def new_file(kind, made):
     return made, len(made)
 
 
-def write(room, record, part):
-    return new_file(*second_side.answer(second_writer.write(record_of(record), part, room)))
+def write(room, record, titles, part):
+    return new_file(*second_side.answer(second_writer.write(record_of(record), titles, part, room)))
 
 
 def decode(room, file):
@@ -100,15 +109,23 @@ CALLS = {'read': (1, 4, read), 'sound': (2, 8, sound), 'write': (3, 1, write), '
          'empty': (8, 1, empty)}
 
 
+def rooms_of(room):
+    """How many elements are lent for the output, and how many bytes for titles, which only reading is lent."""
+    return room if isinstance(room, tuple) else (room, 0)
+
+
 def second_answer(name, room, *words):
     """What the second implementations say of a call."""
     _, element, work = CALLS[name]
+    size, title_size = rooms_of(room)
     try:
-        made, n, *chased = work(room, *words)
+        made, n, *more = work(room, *words)
     except Refused as refusal:
-        return Answer(refusal.args[0], 0, 0, 0, True, FILL * (room * element))
-    left, right = chased or (0, 0)
-    return Answer(0, n, left, right, True, made + FILL * (room * element - len(made)))
+        return Answer(refusal.args[0], 0, 0, 0, True, FILL * (size * element), FILL * title_size)
+    left, right, *texts = more or (0, 0)
+    texts = texts[0] if texts else b''
+    return Answer(0, n, left, right, True, made + FILL * (size * element - len(made)),
+                  texts + FILL * (title_size - len(texts)))
 
 
 def first_difference(found, wanted):
@@ -137,20 +154,24 @@ class Library:
         return found
 
     def call(self, name, room, *words):
-        """A call with room for so many elements; of its other words, files and sounds are bytes, the rest numbers."""
+        """A call with room for so many elements, and for reading with so many bytes for titles too; of its other words,
+        files, records, texts and sounds are bytes, the rest numbers."""
         operation, element, _ = CALLS[name]
-        first, second = ([word for word in words if isinstance(word, bytes)] + [b'', b''])[:2]
+        size, title_size = rooms_of(room)
+        inputs = ([word for word in words if isinstance(word, bytes)] + [b'', b'', b''])[:3]
         numbers = ([word for word in words if isinstance(word, int)] + [0, 0])[:2]
-        head = struct.pack('<6I', operation, *numbers, room, len(first), len(second))
-        self.program.stdin.write(head + first + second)
+        head = struct.pack('<8I', operation, *numbers, size, title_size, *map(len, inputs))
+        self.program.stdin.write(head + b''.join(inputs))
         self.program.stdin.flush()
         refusal, left, right, kept, n = struct.unpack('<4IQ', self.received(24))
-        return Answer(refusal, n, left, right, kept == 1, self.received(room * element))
+        return Answer(refusal, n, left, right, kept == 1, self.received(size * element), self.received(title_size))
 
     def ask(self, label, name, room, *words):
         """The answer of a call, which must be what the second implementations say."""
         found, wanted = self.call(name, room, *words), second_answer(name, room, *words)
-        expect(f'{label}: {name}', found[:-1], wanted[:-1])
+        expect(f'{label}: {name}', found[:-2], wanted[:-2])
         expect(f'{label}: {name}, the first byte that is wrong', first_difference(found.buffer, wanted.buffer), None)
+        expect(f'{label}: {name}, the first byte of its titles that is wrong',
+               first_difference(found.titles, wanted.titles), None)
         self.answers[found.refusal] += 1
         return found

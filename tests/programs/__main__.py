@@ -36,6 +36,8 @@ def listings():
     yield 'a folder', run('wave_list', stdin=folder), refused
     os.close(folder)
     yield 'a file by and by', in_pieces(wave_files.example()), '\n'.join(wave_files.EXAMPLE) + '\n'
+    yield 'titles', run('wave_list', input=wave_files.most_titles()), \
+        '\n'.join([*wave_files.pcm(), *(f'cue {name} at {name % 4}' for name in range(64))]) + '\n'
     for name, expected in others.listings():
         yield name, run('wave_list', input=(others.REPORTED / name).read_bytes()), expected
 

@@ -15,7 +15,7 @@ from second import command as second_command, writer as second_writer
 from second.command import LIMIT, answer
 from second.writer import Record
 from trying import EMPTY, SONG, empty_for, expect, limited, printed, report, tried
-from vectors import sound_files
+from vectors import side_files, sound_files, wave_files
 
 FILES = {'song.wav': SONG, 'side.wav': EMPTY}
 # Half of the stack that programs usually have is enough for these.
@@ -69,6 +69,29 @@ def on_kept_sides():
     for label, side, song in onto():
         does(label, ['side_add', 'side.wav', 'song.wav', 7, 1000000, 'new.wav'], {'side.wav': side, 'song.wav': song},
              answer(second_command.add, side, song, 7, 1000000))
+
+
+# ---- titles
+
+def on_titles():
+    """A decoded file has the titles of the file, a copy has none, and a new side those of the old; a wrong list is
+    refused, and no side."""
+    song = side_files.song()
+    files = {'a list': wave_files.titled(wave_files.SONG, wave_files.note(8, b'by heart')),
+             'a list of skipped chunks': wave_files.titled(wave_files.chunk(b'ltxt', b'abc')),
+             'a list without pads': wave_files.last_bare(wave_files.bare(wave_files.SONG)),
+             'the most titles': wave_files.most_titles(), 'a wrong list': wave_files.titled(wave_files.labl(9, b'a')),
+             'a side with titles': side_files.labelled(wave_files.note(8, b'x'), wave_files.SONG),
+             'a side with a wrong list': side_files.labelled(wave_files.SONG, wave_files.SONG)}
+    for label, file in files.items():
+        given = {'file.wav': file, 'side.wav': EMPTY, 'song.wav': song}
+        does(label, ['wave_check', 'file.wav'], given, answer(second_command.check, file))
+        does(label, ['wave_decode', 'file.wav', 'new.wav'], given, answer(second_command.decode, file))
+        does(label, ['wave_encode', 'file.wav', 'new.wav', 256], given, answer(second_command.encode, file, 256))
+        does(label, ['side_add', 'side.wav', 'file.wav', 7, 1000, 'new.wav'], given,
+             answer(second_command.add, EMPTY, file, 7, 1000))
+        does(f'to {label}', ['side_add', 'file.wav', 'song.wav', 5, 1000, 'new.wav'], given,
+             answer(second_command.add, file, song, 5, 1000))
 
 
 # ---- files as long as they may be, and longer
@@ -223,7 +246,7 @@ def full_disk():
 
 
 def main():
-    for part in (on_other_files, on_kept_sides, at_the_limit, sides_at_the_limit, above_the_limit, numbers, aligns,
-                 names, wrong_calls, wrong_numbers, not_read, not_made, full_disk):
+    for part in (on_other_files, on_kept_sides, on_titles, at_the_limit, sides_at_the_limit, above_the_limit, numbers,
+                 aligns, names, wrong_calls, wrong_numbers, not_read, not_made, full_disk):
         part()
     return report('tests/programs')

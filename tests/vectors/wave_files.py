@@ -501,6 +501,12 @@ def many_titles(*more):
     return wave(fmt(), cue(*[point(name, name % 4) for name in names]), adtl(*found, *more), data())
 
 
+def most_titles():
+    """A file with as many titles as there may be, and all their texts as long as they may be."""
+    cues = cue(*[point(name, name % 4) for name in range(64)])
+    return wave(fmt(), cues, adtl(*[made(name, LONG) for made in (note, labl) for name in range(64)]), data())
+
+
 def counts():
     """At most 128 titles: a label and a note of each of 64 cues."""
     both = [(kind, name, bytes([name])) for name in range(100, 164) for kind in (0, 1)]
