@@ -223,7 +223,7 @@ def letters():
              ('labl', lambda code: wave(fmt(), adtl(labl(7, b'a', code=code)), data()), pcm()),
              ('note', lambda code: wave(fmt(), adtl(labl(7, b'a', code=code)), data()), pcm())]
     for label, file, expected in codes:
-        for other in nearly(label[:4].encode()):
+        for other in dict.fromkeys(nearly(label[:4].encode())):
             yield f'{other.decode()!r} for {label}', file(other), expected
 
 
