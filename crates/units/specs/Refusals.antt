@@ -1,7 +1,7 @@
 -- The limit, the table of refusal numbers, row by row, and the number of a verdict. Assumes nothing.
 use Prim.Native.Nat.{ℕ}
 use Rattle.units.specs.declared.Refusal.{Refusal}
-use Rattle.units.specs.declared.Refusal.the-variants.{LengthOutOfRange, NotWave, RiffSizeWrong, ChunkPastTheEnd, SecondOfItsKind, DataBeforeFormat, WaveList, FormatOrDataMissing, FormatWrong, NotWholeFrames, FactWrong, CuesWrong, PlaylistWrong, OutputTooSmall, BlockHeaderWrong, SongEmptyOrDifferent, NoPlaceOnSide, AlreadyListed, NotASide, NoSuchBlock}
+use Rattle.units.specs.declared.Refusal.the-variants.{LengthOutOfRange, NotWave, RiffSizeWrong, ChunkPastTheEnd, SecondOfItsKind, DataBeforeFormat, WaveList, FormatOrDataMissing, FormatWrong, NotWholeFrames, FactWrong, CuesWrong, PlaylistWrong, OutputTooSmall, BlockHeaderWrong, SongEmptyOrDifferent, NoPlaceOnSide, AlreadyListed, NotASide, NoSuchBlock, TitlesWrong}
 use Rattle.units.specs.declared.Verdict.{Verdict}
 use Rattle.units.specs.declared.Verdict.the-variants.{Accepted, Refused}
 
@@ -51,6 +51,8 @@ numberOf AlreadyListed = 18
 numberOf NotASide = 19
 -- no such block
 numberOf NoSuchBlock = 20
+-- a wrong list of titles or title
+numberOf TitlesWrong = 21
 
 -- the number that a verdict tells: 0 where the input is taken
 abbrev pub verdictNumber : Verdict → ℕ

@@ -1,4 +1,4 @@
-// The four units, the twenty reasons to refuse, and the verdict on an input.
+// The four units, the twenty-one reasons to refuse, and the verdict on an input.
 //
 // A count of frames, a place in bytes, the number of a donated song and a place among the texts of
 // titles are four types, so that none is taken for another. A refusal has the number of document 01's
@@ -43,6 +43,7 @@ pub enum Refusal {
     AlreadyListed,
     NotASide,
     NoSuchBlock,
+    TitlesWrong,
 }
 
 // What an input is judged to be: taken, or refused and why.
@@ -76,5 +77,6 @@ pub fn number(refusal: Refusal) -> u8
         Refusal::AlreadyListed => 18,
         Refusal::NotASide => 19,
         Refusal::NoSuchBlock => 20,
+        Refusal::TitlesWrong => 21,
     }
 }

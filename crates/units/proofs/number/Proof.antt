@@ -7,14 +7,15 @@ use Rattle.units.proofs.number.Tie as tie
 pub number-spec : {M : Type 1} → statement M
 number-spec =
     tie.close
-    (tie.spec (λ c. search needs) (λ c. search needs) (λ c. search needs) (λ c. search needs) (λ c. search needs)
+    (tie.spec (λ c. search needs) (λ c. search needs) (λ c. search needs) (λ c. search needs)
     (λ c. search needs) (λ c. search needs) (λ c. search needs) (λ c. search needs) (λ c. search needs)
     (λ c. search needs) (λ c. search needs) (λ c. search needs) (λ c. search needs) (λ c. search needs)
     (λ c. search needs) (λ c. search needs) (λ c. search needs) (λ c. search needs) (λ c. search needs)
+    (λ c. search needs) (λ c. search needs) (λ c. search (needs, numbered)) (λ c. search (needs, numbered))
     (λ c. search (needs, numbered)) (λ c. search (needs, numbered)) (λ c. search (needs, numbered))
     (λ c. search (needs, numbered)) (λ c. search (needs, numbered)) (λ c. search (needs, numbered))
     (λ c. search (needs, numbered)) (λ c. search (needs, numbered)) (λ c. search (needs, numbered))
     (λ c. search (needs, numbered)) (λ c. search (needs, numbered)) (λ c. search (needs, numbered))
     (λ c. search (needs, numbered)) (λ c. search (needs, numbered)) (λ c. search (needs, numbered))
     (λ c. search (needs, numbered)) (λ c. search (needs, numbered)) (λ c. search (needs, numbered))
-    (λ c. search (needs, numbered)) (λ c. search (needs, numbered)))
+    (λ c. search (needs, numbered)))
