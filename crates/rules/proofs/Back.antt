@@ -1,5 +1,5 @@
 -- The chunks that are written of a record get the record's own verdict, and say the record again: chunk by chunk, as far
--- as the demands before are met. Assumes nothing.
+-- as the demands before are met. The titles are read back elsewhere. Assumes nothing.
 use mathlib.Core.Path.{_≡_, refl, sym, ap, _∙_, subst}
 use mathlib.Core.Bool.{Bool, true, false, cond}
 use mathlib.Core.List.{List, [], _∷_}
@@ -34,8 +34,10 @@ use Rattle.tables.specs.Bytes.{cuesBytes, playsBytes, playsKept, CuesFit, Plays
 use Rattle.tables.proofs.Back.{cues-back, plays-back}
 use Rattle.tables.proofs.Kept.{cues-rule-kept, plays-rule-kept}
 use Rattle.tables.proofs.Written.{cues-written, cues-many, plays-written, plays-many}
+use Rattle.titles.specs.declared.Titles.{Titles}
+use Rattle.titles.specs.Writing.{titlesKept}
 use Rattle.rules.specs.declared.Record.{Record}
-use Rattle.rules.specs.Rules.{ChunkBytes, recordOf, valid, formatValid, factValid, cuesValid, playsValid, chunkChecks, verdictOf, recordChecks, recordVerdict, Writable}
+use Rattle.rules.specs.Rules.{ChunkBytes, recordOf, withTitles, valid, formatValid, factValid, cuesValid, playsValid, chunkChecks, verdictOf, recordChecks, recordVerdict, Writable}
 use Rattle.rules.specs.Written.{writtenBytes, recordKept, RecordFits, FaultSaid}
 use Rattle.rules.proofs.Taken.{record-taken}
 
@@ -190,11 +192,11 @@ module _ (m : Record) (n : BytePlace) (h : RecordFits m) {fact : List ℕ}
           → framesOf (formatOf (b .format)) n fact ≡ m .frames
       said f w c = ap (λ (g : Format). framesOf g n fact) (format-back (m .format) f) ∙ counted m n h k f w (e f) c
 
-  pub record-back : Writable m n → recordOf b ≡ recordKept m
+  pub record-back : {t : Titles} → Writable m n → t ≡ titlesKept (m .titles) → withTitles (recordOf b) t ≡ recordKept m
   unfolding recordOf recordKept
-  record-back k =
+  record-back k q =
       let f = format-back (m .format) (k .format) in
       let c = cues-back (h .cues) in
       let p = plays-back (h .plays) in
       let g = ap (λ (f : Format). framesOf f n fact) f ∙ counted m n h (no-fault k) (k .format) (k .whole) (e (k .format)) (k .count) in
-      λ i. record { format = f i; frames = g i; cues = c i; playlist = p i }
+      λ i. record { format = f i; frames = g i; cues = c i; playlist = p i; titles = q i }

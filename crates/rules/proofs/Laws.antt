@@ -13,6 +13,8 @@ use Rattle.tables.specs.declared.Cues.{Cues}
 use Rattle.tables.specs.declared.Playlist.{Playlist}
 use Rattle.tables.specs.Cues.{noCues, cuesOf}
 use Rattle.tables.specs.Plays.{noPlays, playsOf}
+use Rattle.titles.specs.declared.Titles.{Titles}
+use Rattle.titles.specs.Titles.{noTitles}
 use Rattle.rules.specs.declared.Record.{Record}
 use Rattle.rules.specs.declared.Reading.{Reading}
 use Rattle.rules.specs.Rules.{ChunkBytes, valid, verdictOf, recordOf, bare, blank, turnedAway, readingBy, judged}
@@ -30,9 +32,9 @@ module _ (form rule : Bool) {x : Bool} (e : x ≡ form) where
 pub ruleset fineness = (fine-no, fine-yes)
 
 -- ---- the record and a refused answer
-pub bare-made : (f : Format) (frames : Frames) {c : Cues} {p : Playlist} → c ≡ noCues → p ≡ noPlays
-    → record { format = f; frames = frames; cues = c; playlist = p } ≡ bare f frames
-bare-made f frames d e = λ i. record { format = f; frames = frames; cues = d i; playlist = e i }
+pub bare-made : (f : Format) (frames : Frames) {c : Cues} {p : Playlist} {t : Titles} → c ≡ noCues → p ≡ noPlays → t ≡ noTitles
+    → record { format = f; frames = frames; cues = c; playlist = p; titles = t } ≡ bare f frames
+bare-made f frames d e g = λ i. record { format = f; frames = frames; cues = d i; playlist = e i; titles = g i }
 
 pub away-made : (r : Refusal) {m : Record} → m ≡ blank → record { verdict = Refused r; made = m } ≡ turnedAway r
 away-made r e = ap (λ (m : Record). record { verdict = Refused r; made = m }) e
@@ -47,11 +49,11 @@ module _ {v : Verdict} (m : Record) where
 pub ruleset readings = (reading-taken, reading-refused)
 
 -- ---- what the chunks say, and the answer
-pub record-made : (b : ChunkBytes) {f : Format} {frames : Frames} {c : Cues} {p : Playlist}
-    → f ≡ formatOf (b .format) → frames ≡ framesOf f (b .sound) (b .fact) → c ≡ cuesOf (b .cues) → p ≡ playsOf (b .plays)
-    → record { format = f; frames = frames; cues = c; playlist = p } ≡ recordOf b
+pub record-made : (b : ChunkBytes) {f : Format} {frames : Frames} {c : Cues} {p : Playlist} {t : Titles}
+    → f ≡ formatOf (b .format) → frames ≡ framesOf f (b .sound) (b .fact) → c ≡ cuesOf (b .cues) → p ≡ playsOf (b .plays) → t ≡ noTitles
+    → record { format = f; frames = frames; cues = c; playlist = p; titles = t } ≡ recordOf b
 unfolding recordOf
-record-made b a d e f = simp (d, a, e, f)
+record-made b a d e f g = simp (d, a, e, f, g)
 
 pub answer-judged : (b : ChunkBytes) {m : Record} {v : Verdict} {x : Reading} → x ≡ readingBy v m → v ≡ verdictOf b m → m ≡ recordOf b
     → x ≡ judged b

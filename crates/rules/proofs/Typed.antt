@@ -21,6 +21,12 @@ use Rattle.tables.proofs.Cue as cue
 use Rattle.tables.proofs.Cues as cues
 use Rattle.tables.proofs.Play as play
 use Rattle.tables.proofs.Playlist as plays
+use Rattle.titles.specs.declared.Title.{Title}
+use Rattle.titles.specs.declared.Titles.{Titles}
+use Rattle.titles.specs.Titles.{noTitle}
+use Rattle.titles.specs.Writing.{TitlesFit}
+use Rattle.titles.proofs.Title as title
+use Rattle.titles.proofs.Titles as titles
 use Rattle.rules.specs.declared.Record.{Record}
 use Rattle.rules.specs.Written.{RecordFits}
 use Rattle.rules.proofs.Record as made
@@ -66,6 +72,15 @@ plays-typed p vs s =
       times = λ i. e i .2;
     }
 
+titles-typed : (t : Titles) (vs : List Val) → Is titles.the-row t vs → TitlesFit t
+titles-typed t vs s =
+    let l = s .1 .1 .1 .0 in
+    record {
+      room = sym (length-map (t .list) (title.the-field .into)) ∙ l .1 .0 .1;
+      name = each-keeps (title.the-field .into) (title.the-field .row .own) (λ (x : Title). x .name .0 < 4294967296) noTitle (search needs)
+          (λ x u h. search needs) (t .list) (l .0) (l .1 .1);
+    }
+
 -- of a record that the code holds
 pub record-typed : (m : Record) (vs : List Val) → Is made.the-row m vs → RecordFits m
 record-typed m vs s =
@@ -75,4 +90,5 @@ record-typed m vs s =
       frames = search needs;
       cues = cues-typed (m .cues) _ (a .1 .1 .0);
       plays = plays-typed (m .playlist) _ (a .1 .1 .1 .0);
+      titles = titles-typed (m .titles) _ (a .1 .1 .1 .1 .0);
     }

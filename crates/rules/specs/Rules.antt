@@ -17,6 +17,8 @@ use Rattle.tables.specs.declared.Cues.{Cues}
 use Rattle.tables.specs.declared.Playlist.{Playlist}
 use Rattle.tables.specs.Cues.{noCues, cuesOf, cuesForm, cuesRule}
 use Rattle.tables.specs.Plays.{noPlays, playsOf, playsForm, playsRule}
+use Rattle.titles.specs.declared.Titles.{Titles}
+use Rattle.titles.specs.Titles.{noTitles}
 use Rattle.rules.specs.declared.Record.{Record}
 use Rattle.rules.specs.declared.Reading.{Reading}
 
@@ -28,7 +30,7 @@ pub record ChunkBytes : Type 0 where
   pub cues : List ℕ
   pub plays : List ℕ
 
--- what the chunks say
+-- what the chunks say; the list of titles is judged elsewhere
 unfoldable pub recordOf : ChunkBytes → Record
 recordOf b =
     record {
@@ -36,6 +38,7 @@ recordOf b =
       frames = framesOf (formatOf (b .format)) (b .sound) (b .fact);
       cues = cuesOf (b .cues);
       playlist = playsOf (b .plays);
+      titles = noTitles;
     }
 
 -- a chunk has its form, and what it says keeps its rule
@@ -88,9 +91,13 @@ pub record Writable (m : Record) (n : BytePlace) : Type 0 where
   pub cues : cuesRule (m .cues) (m .frames) ≡ true
   pub plays : playsRule (m .playlist) (m .cues) (m .frames) ≡ true
 
--- a record without cues and playlist
+-- a record without cues, playlist and titles
 abbrev pub bare : Format → Frames → Record
-bare f frames = record { format = f; frames = frames; cues = noCues; playlist = noPlays }
+bare f frames = record { format = f; frames = frames; cues = noCues; playlist = noPlays; titles = noTitles }
+
+-- the same record with other titles
+abbrev pub withTitles : Record → Titles → Record
+withTitles m t = record { format = m .format; frames = m .frames; cues = m .cues; playlist = m .playlist; titles = t }
 
 -- the record that is all zero
 abbrev pub blank : Record

@@ -1,10 +1,11 @@
 // The record of a WAVE file, and the verdict on its chunks: the refusals 9 to 13, in their order.
 //
 // Everything here goes by the bytes of the chunks, wherever they stood in a file; a record to be written
-// is judged by the same rules.
+// is judged by the same rules. The list of titles is judged elsewhere; the record has room for it.
 use formats::Format;
 use tables::Cues;
 use tables::Playlist;
+use titles::Titles;
 use units::BytePlace;
 use units::Frames;
 use units::Refusal;
@@ -13,7 +14,7 @@ ghost use mathlib.Core.Path.{_≡_};
 ghost use Prim.Native.Nat.{_<_};
 ghost use Rattle.formats.specs.Format.{formatOf};
 ghost use Rattle.rules.specs.Rules.{formatValid, factValid, cuesValid, playsValid, verdictOf, recordVerdict};
-ghost use Rattle.rules.specs.Rules.{bare, blank, turnedAway, readingBy, judged};
+ghost use Rattle.rules.specs.Rules.{bare, withTitles, blank, turnedAway, readingBy, judged};
 
 // What a WAVE file says besides its sound.
 pub struct Record {
@@ -21,6 +22,7 @@ pub struct Record {
     pub frames: Frames,
     pub cues: Cues,
     pub playlist: Playlist,
+    pub titles: Titles,
 }
 
 // What reading a file answers; where it is refused, the record is all zero.
@@ -29,7 +31,7 @@ pub struct Reading {
     pub made: Record,
 }
 
-// A record without cues and playlist.
+// A record without cues, playlist and titles.
 pub fn bare(format: Format, frames: Frames) -> Record
     ensures answer { λ r. ⌜ r ≡ bare format frames ⌝ }
 {
@@ -38,6 +40,24 @@ pub fn bare(format: Format, frames: Frames) -> Record
         frames: frames,
         cues: tables::no_cues(),
         playlist: tables::no_plays(),
+        titles: titles::no_titles(),
+    }
+}
+
+// The same record with other titles.
+pub fn with_titles(made: Record, titles: Titles) -> Record
+    ensures answer { λ r. ⌜ r ≡ withTitles made titles ⌝ }
+{
+    let format = made.format;
+    let frames = made.frames;
+    let cues = made.cues;
+    let playlist = made.playlist;
+    Record {
+        format: format,
+        frames: frames,
+        cues: cues,
+        playlist: playlist,
+        titles: titles,
     }
 }
 
@@ -189,7 +209,8 @@ pub fn record_verdict(made: Record, sound: BytePlace) -> Verdict
     Verdict::Accepted
 }
 
-// The verdict on the chunks of a file, and what they say where it is taken. The format is what the `fmt ` says.
+// The verdict on the chunks of a file, and what they say where it is taken. The format is what the `fmt ` says;
+// the record has no titles.
 pub fn judge(
     fmt: &[u8],
     format: Format,
@@ -217,6 +238,7 @@ pub fn judge(
         frames: frames,
         cues: cues,
         playlist: playlist,
+        titles: titles::no_titles(),
     };
     let verdict = verdict_of(fmt, sound, fact, cue, plst, made);
     reading_by(verdict, made)

@@ -8,4 +8,4 @@ pub judge-spec : {M : Type 1} → statement M
 judge-spec =
     tie.close
     (tie.spec (λ c κs. search needs) (λ c κs. search needs) (λ c κs. search needs) (λ c κs. search needs)
-    (λ c κs. search needs) (λ c. search (needs, judging)))
+    (λ c κs. search needs) (λ c κs. search needs) (λ c. search (needs, judging)))
