@@ -78,13 +78,15 @@ said-play p rest f g h =
     }
 
 -- ---- where the entries that are read are those of a list, the table is its first entries, and zero past them
-pub entries-kept : {A : Type 0} (z : A) (many : ℕ → List A) (entry : ℕ → A) (list : List A)
-    → ((k : ℕ) → many (suc k) ≡ set (many k) k (entry k)) → many 0 ≡ replicate 64 z → length list ≡ 64
-    → (n : ℕ) → n ≤ 64 → ((k : ℕ) → k < n → entry k ≡ getD list k z) → many n ≡ take n list ++ replicate (64 - n) z
-entries-kept z many entry list more begin h zero l f = begin
-entries-kept {A} z many entry list more begin h (suc n) l f =
-    let m : 64 - n ≡ suc (64 - suc n) = omega arith in
-    let rest : List A = replicate (64 - suc n) z in
+pub entries-kept : {A : Type 0} {room : ℕ} (z : A) (many : ℕ → List A) (entry : ℕ → A) (list : List A)
+    → ((k : ℕ) → many (suc k) ≡ set (many k) k (entry k)) → many 0 ≡ replicate room z → length list ≡ room
+    → (n : ℕ) → n ≤ room → ((k : ℕ) → k < n → entry k ≡ getD list k z) → many n ≡ take n list ++ replicate (room - n) z
+entries-kept {A} {room} z many entry list more begin h zero l f =
+    let m : room ≡ room - 0 = omega arith in
+    begin ∙ ap (λ (k : ℕ). replicate k z) m
+entries-kept {A} {room} z many entry list more begin h (suc n) l f =
+    let m : room - n ≡ suc (room - suc n) = omega arith in
+    let rest : List A = replicate (room - suc n) z in
     more n
     ∙ ap (λ (xs : List A). set xs n (entry n)) (entries-kept z many entry list more begin h n (omega arith) (λ k g. f k (omega arith)))
     ∙ ap (λ (k : ℕ). set (take n list ++ replicate k z) n (entry n)) m

@@ -67,9 +67,9 @@ pub record Entered {A : Type 0} (bytes : A → List ℕ) (size : ℕ) (list : Li
   pub written : Written (entryBytes bytes (take n list)) at (size * i) d d₀
 
 module _ {A : Type 0} {bytes : A → List ℕ} {size : ℕ} where
-  pub entries-begin : {list : List A} {n at : ℕ} {d : List ℕ} → ((a : A) → length (bytes a) ≡ size) → length list ≡ 64 → n ≤ 64
+  pub entries-begin : {list : List A} {all n at : ℕ} {d : List ℕ} → ((a : A) → length (bytes a) ≡ size) → length list ≡ all → n ≤ all
       → at + size * n ≤ length d → Entered bytes size list n 0 at d d
-  entries-begin {list} {n} {at} {d} f h k l =
+  entries-begin {list} {all} {n} {at} {d} f h k l =
       let r = length-take-le n list (omega arith) in
       let m = entries-long bytes size f (take n list) in
       record {

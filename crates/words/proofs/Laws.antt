@@ -23,8 +23,14 @@ use Rattle.tables.specs.Plays.{noPlays}
 use Rattle.tables.proofs.Entries.{Listed, list-next, list-ends}
 use Rattle.tables.proofs.Putting.{Entered, entries-begin, entry-room, entry-next, entries-end, array-long}
 use Rattle.tables.proofs.Lengths.{entries-long}
+use Rattle.titles.specs.declared.Title.{Title}
+use Rattle.titles.specs.declared.Titles.{Titles}
+use Rattle.titles.specs.Titles.{noTitles}
 use Rattle.rules.specs.declared.Record.{Record}
-use Rattle.words.specs.Words.{headWords, cueWords, playWords, recordWords, word, fieldsFit, cueFrom, cuesFrom, playFrom, entriesFrom, formatFrom, recordFrom}
+use Rattle.rules.specs.Written.{RecordFits}
+use Rattle.rules.proofs.Typed.{record-typed}
+use Rattle.words.specs.Words.{headWords, cueWords, playWords, titleWords, titlesWords, tableWords, recordWords}
+use Rattle.words.specs.Words.{word, fieldsFit, cueFrom, cuesFrom, playFrom, entriesFrom, titleFrom, titlesFrom, formatFrom, recordFrom}
 
 -- ---- the fields of 16 bits
 abbrev fields : List ℕ → List ℕ
@@ -66,27 +72,37 @@ module _ (w : List ℕ) where
   unfolding entriesFrom
   plays-begin e = record { upto = omega arith; more = λ k. refl; same = ap (λ (p : Playlist). p .list) e }
 
+  pub titles-begin : {t : Titles} → t ≡ noTitles → Listed (titlesFrom w) (λ k. titleFrom w (394 + 4 * k)) 128 0 (t .list)
+  unfolding titlesFrom
+  titles-begin e = record { upto = omega arith; more = λ k. refl; same = ap (λ (t : Titles). t .list) e }
+
   pub cues-end : {i : ℕ} {entry : ℕ → Cue} {list : List Cue} → Listed (cuesFrom w) entry 64 i list → 64 ≤ i → list ≡ cuesFrom w 64
   cues-end l h = list-ends l h
 
   pub plays-end : {i : ℕ} {entry : ℕ → Play} {list : List Play} → Listed (entriesFrom w) entry 64 i list → 64 ≤ i → list ≡ entriesFrom w 64
   plays-end l h = list-ends l h
 
-pub ruleset listing = (cues-begin, plays-begin, list-next, cues-end, plays-end)
+  pub titles-end : {i : ℕ} {entry : ℕ → Title} {list : List Title} → Listed (titlesFrom w) entry 128 i list → 128 ≤ i → list ≡ titlesFrom w 128
+  titles-end l h = list-ends l h
 
--- ---- the tables put into words, three for each entry
+pub ruleset listing = (cues-begin, plays-begin, titles-begin, list-next, cues-end, plays-end, titles-end)
+
+-- ---- the tables put into words, three for each entry and four for each title
 pub cue-long : (c : Cue) → length (cueWords c) ≡ 3
 cue-long c = refl
 
 pub play-long : (p : Play) → length (playWords p) ≡ 3
 play-long p = refl
 
-pub all-end : {A : Type 0} {words : A → List ℕ} {list : List A} {i at : ℕ} {d d₀ : List ℕ} → Entered words 3 list 64 i at d d₀ → 64 ≤ i
-    → length list ≡ 64 → Put d₀ at (entryBytes words list) d
-all-end {A} {words} {list} {i} {at} {d} {d₀} w h l =
-    subst (λ (es : List A). Put d₀ at (entryBytes words es) d) (take-all 64 list (omega arith)) (entries-end w h)
+pub title-long : (t : Title) → length (titleWords t) ≡ 4
+title-long t = refl
 
-pub ruleset entering = (cue-long, play-long, array-long, entries-begin, entry-room, entry-next, all-end)
+pub all-end : {A : Type 0} {words : A → List ℕ} {size n : ℕ} {list : List A} {i at : ℕ} {d d₀ : List ℕ} → Entered words size list n i at d d₀ → n ≤ i
+    → length list ≡ n → Put d₀ at (entryBytes words list) d
+all-end {A} {words} {size} {n} {list} {i} {at} {d} {d₀} w h l =
+    subst (λ (es : List A). Put d₀ at (entryBytes words es) d) (take-all n list (omega arith)) (entries-end w h)
+
+pub ruleset entering = (cue-long, play-long, title-long, array-long, entries-begin, entry-room, entry-next, all-end)
 
 -- ---- the whole record
 module _ (cues : List Cue) (plays : List Play) (h : length cues ≡ 64) (l : length plays ≡ 64) where
@@ -99,7 +115,7 @@ module _ (cues : List Cue) (plays : List Play) (h : length cues ≡ 64) (l : len
   pub tables-long : length (entryBytes cueWords cues ++ entryBytes playWords plays) ≡ 384
   tables-long = omega (arith, cues-long, plays-long, length-append (entryBytes cueWords cues) (entryBytes playWords plays))
 
-  module _ {d e : List ℕ} (r : 393 ≤ length d) (p : Put d 9 (entryBytes cueWords cues) e) where
+  module _ {d e : List ℕ} (r : 906 ≤ length d) (p : Put d 9 (entryBytes cueWords cues) e) where
     pub plays-room : 201 + 3 * 64 ≤ length e
     plays-room = omega (arith, put-long p (omega (arith, cues-long)))
 
@@ -108,20 +124,43 @@ module _ (cues : List Cue) (plays : List Play) (h : length cues ≡ 64) (l : len
 
 pub ruleset tables-putting = (array-long, plays-room, tables-put)
 
-module _ (m : Record) {d e head : List ℕ} (r : 393 ≤ length d) (t : head ≡ headWords m) (p : Put d 0 head e) where
+module _ (t : Titles) where
+  pub titles-long : length (t .list) ≡ 128 → length (titlesWords t) ≡ 513
+  unfolding titlesWords
+  titles-long h = omega (arith, entries-long titleWords 4 title-long (t .list))
+
+  module _ {d e : List ℕ} (r : 906 ≤ length d) (p : Put d 393 (t .count ∷ []) e) where
+    pub title-list-room : 394 + 4 * 128 ≤ length e
+    title-list-room = omega (arith, put-long p (omega arith))
+
+    pub titles-put : {f : List ℕ} → length (t .list) ≡ 128 → Put e 394 (entryBytes titleWords (t .list)) f → Put d 393 (titlesWords t) f
+    unfolding titlesWords
+    titles-put h q = put-next p q refl (omega (arith, entries-long titleWords 4 title-long (t .list)))
+
+pub ruleset titles-putting = (array-long, title-list-room, titles-put)
+
+module _ (m : Record) {d e head : List ℕ} (r : 906 ≤ length d) (t : head ≡ headWords m) (p : Put d 0 head e) where
   headed : Put d 0 (headWords m) e
   headed = subst (λ (ys : List ℕ). Put d 0 ys e) t p
 
-  pub tables-room : 393 ≤ length e
+  pub tables-room : 906 ≤ length e
   tables-room = omega (arith, put-long headed (omega arith))
 
-  pub record-put : {f : List ℕ} → length (m .cues .list) ≡ 64 → length (m .playlist .list) ≡ 64
-      → Put e 9 (entryBytes cueWords (m .cues .list) ++ entryBytes playWords (m .playlist .list)) f → f ≡ front (recordWords m) d
-  unfolding recordWords
-  record-put h l q =
-      put-front (put-next headed q refl (omega (arith, tables-long (m .cues .list) (m .playlist .list) h l)))
+  module _ {f : List ℕ} (h : RecordFits m) (q : Put e 9 (tableWords m) f) where
+    many : length (tableWords m) ≡ 384
+    many = tables-long (m .cues .list) (m .playlist .list) (h .cues .room) (h .plays .room)
 
-pub ruleset record-putting = (array-long, tables-room, record-put)
+    pub titles-room : 906 ≤ length f
+    titles-room = omega (arith, tables-room, put-long q (omega (arith, tables-room, many)))
+
+    pub record-put : {g : List ℕ} → Put f 393 (titlesWords (m .titles)) g → g ≡ front (recordWords m) d
+    unfolding recordWords
+    record-put s =
+        let n = titles-long (m .titles) (h .titles .room) in
+        let b = put-next q s (omega (arith, many)) (omega (arith, tables-room, n)) in
+        put-front (put-next headed b refl (omega (arith, many, n, length-append (tableWords m) (titlesWords (m .titles)))))
+
+pub ruleset record-putting = (record-typed, tables-room, titles-room, record-put)
 
 -- ---- the record taken from words
 pub format-said : (w : List ℕ) {a b c d e : ℕ} → a ≡ word w 0 → b ≡ word w 1 → c ≡ word w 3 → d ≡ word w 4 → e ≡ word w 5
@@ -129,14 +168,16 @@ pub format-said : (w : List ℕ) {a b c d e : ℕ} → a ≡ word w 0 → b ≡ 
 unfolding formatFrom
 format-said w f g h i j = simp (f, g, h, i, j)
 
-pub record-said : (w : List ℕ) {f : Format} {c : List Cue} {p : List Play} → f ≡ formatFrom w → c ≡ cuesFrom w 64 → p ≡ entriesFrom w 64
+pub record-said : (w : List ℕ) {f : Format} {c : List Cue} {p : List Play} {t : List Title} → f ≡ formatFrom w → c ≡ cuesFrom w 64 → p ≡ entriesFrom w 64
+    → t ≡ titlesFrom w 128
     → record {
       format = f;
       frames = record { 0 = word w 6 };
       cues = record { count = word w 7; list = c };
       playlist = record { count = word w 8; list = p };
+      titles = record { count = word w 393; list = t };
     } ≡ recordFrom w
 unfolding recordFrom
-record-said w e g h = simp (e, g, h)
+record-said w e g h j = simp (e, g, h, j)
 
 pub ruleset saying = (format-said, record-said)

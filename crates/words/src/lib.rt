@@ -1,14 +1,17 @@
-// A record as 393 words of 32 bits, as it travels through the C interface: tag, channels, rate, bits,
+// A record as 906 words of 32 bits, as it travels through the C interface: tag, channels, rate, bits,
 // align, samples per block, frames, number of cues, number of entries; 64 cues of three words each, and
-// 64 entries of three words each.
+// 64 entries of three words each; number of titles, and 128 titles of four words each.
 use formats::Format;
 use rules::Record;
 use tables::Cue;
 use tables::Cues;
 use tables::Play;
 use tables::Playlist;
+use titles::Title;
+use titles::Titles;
 use units::Donation;
 use units::Frames;
+use units::TextPlace;
 ghost use mathlib.Core.Path.{_≡_};
 ghost use mathlib.Core.Bool.{true};
 ghost use mathlib.Core.List.{_++_};
@@ -16,10 +19,11 @@ ghost use Prim.Native.Nat.{_+_, _*_, _≤_, _<_};
 ghost use lib.ListN.{length};
 ghost use Rattle.little.specs.Writing.{Put, front};
 ghost use Rattle.tables.specs.Bytes.{entryBytes};
-ghost use Rattle.words.specs.Words.{headWords, cueWords, playWords, recordWords, fieldsFit, formatFrom, cueFrom, cuesFrom, playFrom, entriesFrom, recordFrom};
+ghost use Rattle.words.specs.Words.{headWords, cueWords, playWords, titleWords, titlesWords, recordWords};
+ghost use Rattle.words.specs.Words.{fieldsFit, formatFrom, cueFrom, cuesFrom, playFrom, entriesFrom, titleFrom, titlesFrom, recordFrom};
 
 // How many words a record has.
-pub const WORDS: usize = 393;
+pub const WORDS: usize = 906;
 
 // ---- a record put into words
 
@@ -73,6 +77,15 @@ fn put_play(out: &mut [u32], at: usize, play: Play)
     put_words(out, at, &words);
 }
 
+// Puts a title.
+fn put_title(out: &mut [u32], at: usize, title: Title)
+    requires { ⌜ at + 4 ≤ length (now out) ⌝ }
+    ensures buffer { λ _. ⌜ Put (now (out .entry)) at (titleWords title) (now (out .exit)) ⌝ }
+{
+    let words = [title.kind, title.name.0, title.start.0, title.length.0];
+    put_words(out, at, &words);
+}
+
 // Puts 64 cues, one behind the other.
 fn put_cues(out: &mut [u32], at: usize, list: [Cue; 64])
     requires { ⌜ at + 3 * 64 ≤ length (now out) ⌝ }
@@ -99,9 +112,33 @@ fn put_plays(out: &mut [u32], at: usize, list: [Play; 64])
     }
 }
 
-// Puts the two tables, behind the words before them.
+// Puts 128 titles, one behind the other.
+fn put_title_list(out: &mut [u32], at: usize, list: [Title; 128])
+    requires { ⌜ at + 4 * 128 ≤ length (now out) ⌝ }
+    ensures buffer { λ _. ⌜ Put (now (out .entry)) at (entryBytes titleWords list) (now (out .exit)) ⌝ }
+{
+    let mut i = 0;
+    while i < 128 {
+        let title = list[i];
+        put_title(out, at + 4 * i, title);
+        i += 1;
+    }
+}
+
+// Puts the number of titles, and behind it the titles.
+fn put_titles(out: &mut [u32], titles: Titles)
+    requires { ⌜ 906 ≤ length (now out) ⌝ }
+    ensures buffer { λ _. ⌜ Put (now (out .entry)) 393 (titlesWords titles) (now (out .exit)) ⌝ }
+{
+    let list = titles.list;
+    let words = [titles.count];
+    put_words(out, 393, &words);
+    put_title_list(out, 394, list);
+}
+
+// Puts the cues and the entries, behind the words before them.
 fn put_tables(out: &mut [u32], cues: [Cue; 64], plays: [Play; 64])
-    requires { ⌜ 393 ≤ length (now out) ⌝ }
+    requires { ⌜ 906 ≤ length (now out) ⌝ }
     ensures buffer { λ _. ⌜ Put (now (out .entry)) 9 (entryBytes cueWords cues ++ entryBytes playWords plays) (now (out .exit)) ⌝ }
 {
     put_cues(out, 9, cues);
@@ -110,23 +147,25 @@ fn put_tables(out: &mut [u32], cues: [Cue; 64], plays: [Play; 64])
 
 // Puts a record from the start of a lent buffer.
 pub fn put_record(out: &mut [u32], made: Record)
-    requires { ⌜ 393 ≤ length (now out) ⌝ }
+    requires { ⌜ 906 ≤ length (now out) ⌝ }
     ensures buffer { λ _. ⌜ now (out .exit) ≡ front (recordWords made) (now (out .entry)) ⌝ }
 {
     let cues = made.cues;
     let playlist = made.playlist;
     let cue_list = cues.list;
     let play_list = playlist.list;
+    let titles = made.titles;
     let head = head_words(made);
     put_words(out, 0, &head);
     put_tables(out, cue_list, play_list);
+    put_titles(out, titles);
 }
 
 // ---- a record taken from words
 
 // Whether every word of a field of 16 bits fits it.
 pub fn fields_fit(words: &[u32]) -> bool
-    requires { ⌜ 393 ≤ length (now words) ⌝ }
+    requires { ⌜ 906 ≤ length (now words) ⌝ }
     ensures answer { λ r. ⌜ r ≡ fieldsFit (now (words .entry)) ⌝ }
 {
     let fields = [words[0], words[1], words[3], words[4], words[5]];
@@ -143,7 +182,7 @@ fn narrow(x: u32) -> u16
 
 // The format of a record.
 fn format_from(words: &[u32]) -> Format
-    requires { ⌜ (393 ≤ length (now words)) × (fieldsFit (now words) ≡ true) ⌝ }
+    requires { ⌜ (906 ≤ length (now words)) × (fieldsFit (now words) ≡ true) ⌝ }
     ensures answer { λ r. ⌜ r ≡ formatFrom (now (words .entry)) ⌝ }
 {
     Format {
@@ -180,9 +219,22 @@ fn play_from(words: &[u32], at: usize) -> Play
     }
 }
 
+// The title at a place.
+fn title_from(words: &[u32], at: usize) -> Title
+    requires { ⌜ at + 4 ≤ length (now words) ⌝ }
+    ensures answer { λ r. ⌜ r ≡ titleFrom (now (words .entry)) at ⌝ }
+{
+    Title {
+        kind: words[at],
+        name: Donation(words[at + 1]),
+        start: TextPlace(words[at + 2]),
+        length: TextPlace(words[at + 3]),
+    }
+}
+
 // The 64 cues of a record.
 fn cues_from(words: &[u32]) -> [Cue; 64]
-    requires { ⌜ 393 ≤ length (now words) ⌝ }
+    requires { ⌜ 906 ≤ length (now words) ⌝ }
     ensures answer { λ r. ⌜ r ≡ cuesFrom (now (words .entry)) 64 ⌝ }
 {
     let none = tables::no_cues();
@@ -197,7 +249,7 @@ fn cues_from(words: &[u32]) -> [Cue; 64]
 
 // The 64 playlist entries of a record.
 fn plays_from(words: &[u32]) -> [Play; 64]
-    requires { ⌜ 393 ≤ length (now words) ⌝ }
+    requires { ⌜ 906 ≤ length (now words) ⌝ }
     ensures answer { λ r. ⌜ r ≡ entriesFrom (now (words .entry)) 64 ⌝ }
 {
     let none = tables::no_plays();
@@ -210,9 +262,24 @@ fn plays_from(words: &[u32]) -> [Play; 64]
     list
 }
 
+// The 128 titles of a record.
+fn titles_from(words: &[u32]) -> [Title; 128]
+    requires { ⌜ 906 ≤ length (now words) ⌝ }
+    ensures answer { λ r. ⌜ r ≡ titlesFrom (now (words .entry)) 128 ⌝ }
+{
+    let none = titles::no_titles();
+    let mut list = none.list;
+    let mut i = 0;
+    while i < 128 {
+        list[i] = title_from(words, 394 + 4 * i);
+        i += 1;
+    }
+    list
+}
+
 // The record that words say.
 pub fn record_from(words: &[u32]) -> Record
-    requires { ⌜ (393 ≤ length (now words)) × (fieldsFit (now words) ≡ true) ⌝ }
+    requires { ⌜ (906 ≤ length (now words)) × (fieldsFit (now words) ≡ true) ⌝ }
     ensures answer { λ r. ⌜ r ≡ recordFrom (now (words .entry)) ⌝ }
 {
     let cues = Cues {
@@ -223,10 +290,15 @@ pub fn record_from(words: &[u32]) -> Record
         count: words[8],
         list: plays_from(words),
     };
+    let titles = Titles {
+        count: words[393],
+        list: titles_from(words),
+    };
     Record {
         format: format_from(words),
         frames: Frames(words[6]),
         cues: cues,
         playlist: playlist,
+        titles: titles,
     }
 }
