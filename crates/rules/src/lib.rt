@@ -52,6 +52,7 @@ pub fn with_titles(made: Record, titles: Titles) -> Record
     let frames = made.frames;
     let cues = made.cues;
     let playlist = made.playlist;
+    // The titles that it had are left behind.
     Record {
         format: format,
         frames: frames,
