@@ -51,6 +51,7 @@ titlesWords t = t .count ∷ entryBytes titleWords (t .list)
 abbrev pub tableWords : Record → List ℕ
 tableWords m = entryBytes cueWords (m .cues .list) ++ entryBytes playWords (m .playlist .list)
 
+-- the numbers, the two tables, and the titles
 unfoldable pub recordWords : Record → List ℕ
 recordWords m = headWords m ++ (tableWords m ++ titlesWords (m .titles))
 
