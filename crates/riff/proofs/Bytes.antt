@@ -23,7 +23,7 @@ unfolding padBytes
 pad-bytes size = zero-bytes (size % 2)
 
 -- a chunk and those after it; and a chunk that may be left out
-body-bytes : (p : Piece) (ps : List Piece) → T (areBytes (p .bytes)) → T (areBytes (bodyBytes ps)) → T (areBytes (bodyBytes (p ∷ ps)))
+pub body-bytes : (p : Piece) (ps : List Piece) → T (areBytes (p .bytes)) → T (areBytes (bodyBytes ps)) → T (areBytes (bodyBytes (p ∷ ps)))
 unfolding bodyBytes pieceBytes
 body-bytes p ps t u = search (both-bytes, head-bytes, pad-bytes)
 

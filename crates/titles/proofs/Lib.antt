@@ -5,3 +5,5 @@ pub mod Pouring
 pub mod Putting
 pub mod Texts
 pub mod Lists
+pub mod Back
+pub mod Round

@@ -61,7 +61,7 @@ module _ (kind size : ℕ) where
     size-most g = simp (lt-ltb kind 2 h, le-leb 5 size g)
 
     -- what a title's size is, where it fits
-    title-size : sizeFits kind size ≡ true → (5 ≤ size) × (size ≤ 260)
+    pub title-size : sizeFits kind size ≡ true → (5 ≤ size) × (size ≤ 260)
     unfolding sizeFits
     title-size e =
         let b = and-both (leb 5 size) (leb size 260) (sym (simp (lt-ltb kind 2 h)) ∙ e) in
@@ -111,7 +111,7 @@ within l e = ltb-false (length l) (endAt l 0) (second (ltb (length l) 8) (ltb (l
     second false y f = f
 
 -- and so has what there is of its pad
-next-within : (l : List ℕ) → passes l 0 ≡ false → nextAt l 0 ≤ length l
+pub next-within : (l : List ℕ) → passes l 0 ≡ false → nextAt l 0 ≤ length l
 next-within l e = omega (arith, next-place-in (sizeAt l 0) (endAt l 0) (length l) (within l e))
 
 -- ---- the chunk at the front fits, or does not
@@ -166,7 +166,7 @@ module _ (l : List ℕ) where
 
 -- what the code is told of it
 module _ (lost : Bool) (l : List ℕ) where
-  fits-all : frontFits lost l ≡ true → (passes l 0 ≡ false) × (sizeFits (frontKind l) (sizeAt l 0) ≡ true)
+  pub fits-all : frontFits lost l ≡ true → (passes l 0 ≡ false) × (sizeFits (frontKind l) (sizeAt l 0) ≡ true)
   unfolding frontFits
   fits-all e = by (passes l 0) (padFits lost (padAt l 0)) (sizeFits (frontKind l) (sizeAt l 0)) e
     where

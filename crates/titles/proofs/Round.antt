@@ -1,0 +1,276 @@
+-- There and back: titles that may be written are read back of their list, with their texts; and the titles of a list that is valid may be
+-- written again, in a list that is not longer, also with one cue more. Assumes nothing.
+use mathlib.Core.Path.{_≡_, refl, sym, ap, _∙_, subst}
+use mathlib.Core.Bool.{Bool, true, false, cond, _&&_}
+use mathlib.Core.List.{List, [], _∷_, _++_, map, append-nil}
+use Prim.Native.Nat.{ℕ, zero, suc, _+_, _-_, _%_, _≤_, _<_, min}
+use native.Mathlib.Omega.{arith}
+use lib.Dec.{T, ltb, leb, lit<}
+use lib.Pow.{areBytes}
+use lib.ListN.{length, take, drop, getD, replicate, length-append, length-replicate, length-drop, length-take, List·getD-append}
+use lib.Seq.{take-at, length-take-le, getD-take}
+use borrow.Author.Tests.{lt-ltb, le-leb, leb-true, ltb-true}
+use Rattle.lists.specs.Among.{indexIn, has, distinct}
+use Rattle.lists.specs.Every.{every}
+use Rattle.lists.proofs.Laws.{and-both, every-all}
+use Rattle.lists.proofs.Behind.{index-stays}
+use Rattle.little.specs.Numbers.{numberAt, bytesOf}
+use Rattle.little.proofs.Reading.{length-bytes, number-fits, taken-bytes, dropped-bytes, both-bytes, number-bytes}
+use Rattle.codes.specs.Codes.{codeBytes}
+use Rattle.codes.specs.declared.Code.the-variants as code
+use Rattle.codes.proofs.Bytes.{length-code, code-bytes}
+use Rattle.riff.specs.Chunks.{sizeAt, endAt, nextAt, passes}
+use Rattle.riff.specs.Laying.{piece, bodyBytes}
+use Rattle.riff.proofs.Laying.{length-body}
+use Rattle.riff.proofs.Bytes.{body-bytes}
+use Rattle.riff.proofs.Padding.{next-place}
+use Rattle.titles.specs.declared.Title.{Title}
+use Rattle.titles.specs.declared.Titles.{Titles}
+use Rattle.titles.specs.Titles.{Entry, noEntry, entryIn, firstEntries, entriesOf, closed, entryRule, eachRule, namesBy, entriesRule, textsOf, placedFrom, noTitle, noTitles, tableOf, tableFor, textsEnd}
+use Rattle.titles.specs.Lists.{frontKind, frontEntry, frontRest, withEntry, entriesBy, entriesIn, frontFits, tilesBy, tiles, listForm, listValid, titlesOf}
+use Rattle.titles.specs.Writing.{codeOf, pieceOf, listBytes, inRow, titlesRight, titlesKept, TitlesFit, Short}
+use Rattle.titles.proofs.Entries.{entries-long, entry-at}
+use Rattle.titles.proofs.Walking.{title-size, fits-all, within}
+use Rattle.titles.proofs.Lists.{entry-kept, Kept, rule-kept}
+use Rattle.titles.proofs.Texts.{NoneEmpty, placed-long, placed-row, row-placed, ends-placed, texts-back}
+use Rattle.titles.proofs.Back.{EntryFits, AllFit, entries-back, list-written}
+
+-- ---- titles that may be written
+module _ (names s : List ℕ) (t : Titles) (fit : TitlesFit t) (e : titlesRight names s t ≡ true) where
+  abbrev es : List Entry
+  es = entriesOf s t
+
+  right-both : ((leb (t .count) 128 && inRow (length s) 0 (take (t .count) (t .list))) ≡ true) × (entriesRule names (entriesOf s t) ≡ true)
+  unfolding titlesRight
+  right-both = and-both (leb (t .count) 128 && inRow (length s) 0 (take (t .count) (t .list))) (entriesRule names (entriesOf s t)) e
+
+  right-first : (leb (t .count) 128 ≡ true) × (inRow (length s) 0 (take (t .count) (t .list)) ≡ true)
+  right-first = and-both (leb (t .count) 128) (inRow (length s) 0 (take (t .count) (t .list))) (right-both .0)
+
+  few : t .count ≤ 128
+  few = leb-true (t .count) 128 (right-first .0)
+
+  many : length es ≡ t .count
+  many = entries-long s (t .list) (t .count) (omega (arith, few, fit .room))
+
+  kept : (i : ℕ) → i < length es → Kept names (getD es i noEntry)
+  kept i h = rule-kept names (getD es i noEntry) (entry-kept names es (right-both .1) i h)
+
+  at-place : (i : ℕ) → i < t .count → getD es i noEntry ≡ entryIn s (getD (t .list) i noTitle)
+  at-place i h = entry-at s (t .list) (t .count) (omega (arith, few, fit .room)) i h
+
+  fits : AllFit es
+  fits i h =
+      let k = kept i h in
+      let n : getD es i noEntry .name ≡ getD (t .list) i noTitle .name .0 = ap (λ (x : Entry). x .name) (at-place i (omega (arith, many))) in
+      record { kind = k .kind; name = omega (arith, fit .name i); some = k .some; short = k .short }
+
+  pub right-short : Short s (t .list) (t .count)
+  right-short =
+      record {
+        few = few;
+        texts = λ i h. subst (λ (x : Entry). length (x .text) ≤ 256) (at-place i h) (kept i (omega (arith, many)) .short);
+      }
+
+  -- of their list the same titles are read
+  pub round-entries : entriesIn (listBytes es) ≡ es
+  round-entries = entries-back es fits
+
+  pub round-titles : titlesOf (listBytes es) ≡ titlesKept t
+  unfolding titlesKept firstEntries
+  round-titles = ap tableFor round-entries ∙ ap tableOf (row-placed 0 s (take (t .count) (t .list)) (right-first .1))
+
+  pub round-valid : (lost : Bool) → listValid true lost (listBytes es) names ≡ true
+  unfolding listValid
+  round-valid lost =
+      let r : entriesRule names (entriesIn (listBytes es)) ≡ true = ap (entriesRule names) round-entries ∙ right-both .1 in
+      simp (list-written es fits lost (omega (arith, many, few)), r)
+
+-- ---- no list is one without titles
+pub none-in : entriesIn [] ≡ []
+unfolding entriesIn entriesBy
+none-in = refl
+
+pub none-titles : titlesOf [] ≡ noTitles
+unfolding tableOf placedFrom
+none-titles = ap tableFor none-in
+
+pub none-valid : (lost : Bool) (names : List ℕ) → listValid true lost [] names ≡ true
+unfolding listValid listForm tiles tilesBy entriesRule eachRule every namesBy distinct
+none-valid lost names = simp none-in
+
+-- ---- a table that is read is as it would be read back
+pub titles-kept : (l : List ℕ) → titlesKept (titlesOf l) ≡ titlesOf l
+unfolding titlesKept tableOf
+titles-kept l =
+    let ts : List Title = placedFrom 0 (entriesIn l) in
+    ap tableOf (take-at ts (replicate (128 - length ts) noTitle) (length ts) refl)
+
+-- ---- a list that is valid
+module _ (alone lost : Bool) (l names : List ℕ) (e : listValid alone lost l names ≡ true) where
+  valid-both : ((alone && listForm lost l) ≡ true) × (entriesRule names (entriesIn l) ≡ true)
+  unfolding listValid
+  valid-both = and-both (alone && listForm lost l) (entriesRule names (entriesIn l)) e
+
+  pub valid-form : listForm lost l ≡ true
+  valid-form = and-both alone (listForm lost l) (valid-both .0) .1
+
+  pub valid-rule : entriesRule names (entriesIn l) ≡ true
+  valid-rule = valid-both .1
+
+  form-both : (tiles lost l ≡ true) × (leb (length (entriesIn l)) 128 ≡ true)
+  unfolding listForm
+  form-both = and-both (tiles lost l) (leb (length (entriesIn l)) 128) valid-form
+
+  pub valid-few : length (entriesIn l) ≤ 128
+  valid-few = leb-true (length (entriesIn l)) 128 (form-both .1)
+
+  valid-some : NoneEmpty (entriesIn l)
+  valid-some i h = rule-kept names (getD (entriesIn l) i noEntry) (entry-kept names (entriesIn l) valid-rule i h) .some
+
+  -- its texts end where the record says
+  pub valid-ends : textsEnd (titlesOf l) ≡ length (textsOf (entriesIn l))
+  valid-ends = ends-placed (entriesIn l) valid-some
+
+  pub valid-there : entriesOf (textsOf (entriesIn l)) (titlesOf l) ≡ entriesIn l
+  valid-there =
+      ap (λ (s : List ℕ). entriesOf s (titlesOf l)) (sym (append-nil (textsOf (entriesIn l)))) ∙ texts-back (entriesIn l) [] valid-some
+
+  -- its titles may be written with its texts, whatever the cues, where they keep the rule
+  pub valid-right : (cues : List ℕ) → entriesRule cues (entriesIn l) ≡ true → titlesRight cues (textsOf (entriesIn l)) (titlesOf l) ≡ true
+  unfolding titlesRight tableOf
+  valid-right cues r =
+      let ts : List Title = placedFrom 0 (entriesIn l) in
+      let n : length ts ≤ 128 = omega (arith, placed-long 0 (entriesIn l), valid-few) in
+      let row : inRow (length (textsOf (entriesIn l))) 0 (take (length ts) (ts ++ replicate (128 - length ts) noTitle)) ≡ true =
+      ap (inRow (length (textsOf (entriesIn l))) 0) (take-at ts (replicate (128 - length ts) noTitle) (length ts) refl)
+      ∙ placed-row (length (textsOf (entriesIn l))) 0 (entriesIn l) valid-some (omega arith) in
+      let rule = ap (entriesRule cues) valid-there ∙ r in
+      simp (le-leb (length ts) 128 n, row, rule)
+
+-- ---- with one cue more the rule is kept too
+has-more : (y x : ℕ) (ys : List ℕ) → has y ys ≡ true → has y (ys ++ (x ∷ [])) ≡ true
+unfolding has
+has-more y x ys e =
+    lt-ltb (indexIn y (ys ++ (x ∷ []))) (length (ys ++ (x ∷ [])))
+    (omega (arith, index-stays y x ys e, ltb-true (indexIn y ys) (length ys) e, length-append ys (x ∷ [])))
+
+module _ (names : List ℕ) (x : ℕ) where
+  entry-more : (y : Entry) → entryRule names y ≡ true → entryRule (names ++ (x ∷ [])) y ≡ true
+  unfolding entryRule
+  entry-more y e =
+      let a = and-both (ltb (y .kind) 2 && leb (length (y .text)) 256 && closed (y .text)) (has (y .name) names) e in
+      simp (a .0, has-more (y .name) x names (a .1))
+
+  pub rule-more : (es : List Entry) → entriesRule names es ≡ true → entriesRule (names ++ (x ∷ [])) es ≡ true
+  unfolding entriesRule eachRule
+  rule-more es e =
+      let a = and-both (eachRule names es && distinct (namesBy 0 es)) (distinct (namesBy 1 es)) e in
+      let b = and-both (eachRule names es) (distinct (namesBy 0 es)) (a .0) in
+      let c : every (λ i. entryRule (names ++ (x ∷ [])) (getD es i noEntry)) 0 (length es) ≡ true =
+      every-all (λ i. entryRule (names ++ (x ∷ [])) (getD es i noEntry)) 0 (length es)
+      (λ i _ h. entry-more (getD es i noEntry) (entry-kept names es e i (omega arith))) in
+      simp (c, b .1, a .1)
+
+-- ---- a table that is read of bytes fits the fields that it is written to
+names-fit : (n : ℕ) (l : List ℕ) → T (areBytes l) → (i : ℕ) → getD (entriesBy n l) i noEntry .name < 4294967296
+unfolding entriesBy frontEntry
+names-fit zero l b i = lit< tt
+names-fit (suc n) l b i = by (names-fit n (frontRest l) (dropped-bytes (nextAt l 0) l b)) (passes l 0) (ltb (frontKind l) 2) i
+  where
+    by : ((j : ℕ) → getD (entriesBy n (frontRest l)) j noEntry .name < 4294967296) → (p k : Bool) (j : ℕ)
+        → getD (cond p [] (cond k (frontEntry l ∷ entriesBy n (frontRest l)) (entriesBy n (frontRest l)))) j noEntry .name < 4294967296
+    by rest true k j = lit< tt
+    by rest false true zero = number-fits 4 l 8 b
+    by rest false true (suc j) = rest j
+    by rest false false j = rest j
+
+placed-name : (es : List Entry) (at i : ℕ) → getD (placedFrom at es) i noTitle .name .0 ≡ getD es i noEntry .name
+unfolding placedFrom
+placed-name [] at i = refl
+placed-name (e ∷ es) at zero = refl
+placed-name (e ∷ es) at (suc i) = placed-name es (at + length (e .text)) i
+
+past-none : (ts : List Title) (n i : ℕ) → getD (ts ++ replicate n noTitle) i noTitle ≡ getD ts i noTitle
+past-none [] zero i = refl
+past-none [] (suc n) zero = refl
+past-none [] (suc n) (suc i) = past-none [] n i
+past-none (t ∷ ts) n zero = refl
+past-none (t ∷ ts) n (suc i) = past-none ts n i
+
+pub titles-fit : (l : List ℕ) → T (areBytes l) → length (entriesIn l) ≤ 128 → TitlesFit (titlesOf l)
+unfolding tableOf entriesIn
+titles-fit l b h =
+    let es : List Entry = entriesBy (length l) (drop 4 l) in
+    let ts : List Title = placedFrom 0 es in
+    record {
+      room = length-append ts (replicate (128 - length ts) noTitle) ∙ omega (arith, placed-long 0 es, length-replicate (128 - length ts) noTitle);
+      name =
+          λ i.
+          subst (λ (n : ℕ). n < 4294967296)
+          (sym (ap (λ (t : Title). t .name .0) (past-none ts (128 - length ts) i) ∙ placed-name es 0 i))
+          (names-fit (length l) (drop 4 l) (dropped-bytes 4 l b) i);
+    }
+
+-- ---- a list that is valid, written again, is not longer than it was with its pad
+-- the first chunk and what is left, of which the titles take no more than it has with its last pad
+module _ (lost : Bool) (n : ℕ) (l : List ℕ) (t : tilesBy lost (suc n) l ≡ true)
+    (rest : tilesBy lost n (frontRest l) ≡ true → length (bodyBytes (map pieceOf (entriesBy n (frontRest l)))) ≤ length (frontRest l) + length (frontRest l) % 2) where
+  module _ (w : passes l 0 ≡ false) where
+    tiled-both : (frontFits lost l ≡ true) × (tilesBy lost n (frontRest l) ≡ true)
+    unfolding tilesBy
+    tiled-both =
+        let some = lt-ltb 0 (length l) (omega (arith, within l w)) in
+        and-both (frontFits lost l) (tilesBy lost n (frontRest l)) (sym (simp some) ∙ t)
+
+    after : length (frontRest l) ≡ length l - min (8 + sizeAt l 0 + sizeAt l 0 % 2) (length l)
+    after = length-drop (nextAt l 0) l ∙ ap (λ (k : ℕ). length l - k) (next-place (sizeAt l 0) (8 + sizeAt l 0) (length l) (within l w))
+
+    left : length (bodyBytes (map pieceOf (entriesBy n (frontRest l)))) ≤ length (frontRest l) + length (frontRest l) % 2
+    left = rest (tiled-both .1)
+
+    one : ltb (frontKind l) 2 ≡ true → length (pieceOf (frontEntry l) .bytes) ≡ sizeAt l 0
+    unfolding pieceOf frontEntry
+    one k =
+        let z = title-size (frontKind l) (sizeAt l 0) (ltb-true (frontKind l) 2 k) (fits-all lost l (tiled-both .0) .1) in
+        length-append (bytesOf 4 (numberAt 4 l 8)) (take (sizeAt l 0 - 4) (drop 12 l))
+        ∙ omega (arith, length-bytes 4 (numberAt 4 l 8), length-take-le (sizeAt l 0 - 4) (drop 12 l) (omega (arith, length-drop 12 l, within l w)), z .0)
+
+  shorter : length (bodyBytes (map pieceOf (entriesBy (suc n) l))) ≤ length l + length l % 2
+  unfolding entriesBy bodyBytes
+  shorter = by (passes l 0) (ltb (frontKind l) 2) refl refl
+    where
+      by : (p k : Bool) → passes l 0 ≡ p → ltb (frontKind l) 2 ≡ k
+          → length (bodyBytes (map pieceOf (cond p [] (cond k (frontEntry l ∷ entriesBy n (frontRest l)) (entriesBy n (frontRest l)))))) ≤ length l + length l % 2
+      by true k e f = omega arith
+      by false true e f =
+          omega (arith, length-body (pieceOf (frontEntry l)) (map pieceOf (entriesBy n (frontRest l))), ap (λ (i : ℕ). 8 + (i + i % 2)) (one e f), left e, after e, within l e)
+      by false false e f = omega (arith, left e, after e, within l e)
+
+chunks-shorter : (lost : Bool) (n : ℕ) (l : List ℕ) → tilesBy lost n l ≡ true
+    → length (bodyBytes (map pieceOf (entriesBy n l))) ≤ length l + length l % 2
+unfolding entriesBy bodyBytes
+chunks-shorter lost zero l t = omega arith
+chunks-shorter lost (suc n) l t = shorter lost n l t (chunks-shorter lost n (frontRest l))
+
+pub not-longer : (lost : Bool) (l : List ℕ) → tiles lost l ≡ true → 4 ≤ length l → length (listBytes (entriesIn l)) ≤ length l + length l % 2
+unfolding tiles entriesIn listBytes
+not-longer lost l t h =
+    let body : List ℕ = bodyBytes (map pieceOf (entriesBy (length l) (drop 4 l))) in
+    let m : (length l - 4) % 2 ≡ length l % 2 = omega arith in
+    omega (arith, length-append (codeBytes code.Titles) body, length-code code.Titles, chunks-shorter lost (length l) (drop 4 l) t, length-drop 4 l,
+      ap (λ (k : ℕ). k % 2) (length-drop 4 l))
+
+-- ---- a list that is written of bytes is bytes
+titles-bytes : (s : List ℕ) → T (areBytes s) → (ts : List Title) → T (areBytes (bodyBytes (map pieceOf (map (entryIn s) ts))))
+unfolding bodyBytes pieceOf
+titles-bytes s b [] = tt
+titles-bytes s b (t ∷ ts) =
+    body-bytes (piece (codeOf (t .kind)) (bytesOf 4 (t .name .0) ++ entryIn s t .text)) (map pieceOf (map (entryIn s) ts))
+    (both-bytes (bytesOf 4 (t .name .0)) (entryIn s t .text) (number-bytes 4 (t .name .0))
+    (taken-bytes (t .length .0 + 1) (drop (t .start .0) s) (dropped-bytes (t .start .0) s b)))
+    (titles-bytes s b ts)
+
+pub list-bytes : (s : List ℕ) (t : Titles) → T (areBytes s) → T (areBytes (listBytes (entriesOf s t)))
+unfolding listBytes firstEntries
+list-bytes s t b = both-bytes (codeBytes code.Titles) _ (code-bytes code.Titles) (titles-bytes s b (take (t .count) (t .list)))
