@@ -59,19 +59,15 @@ rule-kept names x e =
     }
 
 -- ---- a list that is valid, case by case
-module _ (alone lost : Bool) (l : List ℕ) (c : Cues) where
-  invalid : listValid alone lost l (namesIn c) ≡ false → {r : ListRead} → r ≡ record { valid = false; titles = noTitles } → r ≡ listRead alone lost l (namesIn c)
+module _ (lost : Bool) (l : List ℕ) (c : Cues) where
+  invalid : listValid lost l (namesIn c) ≡ false → {r : ListRead} → r ≡ record { valid = false; titles = noTitles } → r ≡ listRead lost l (namesIn c)
   unfolding listRead
   invalid e f = f ∙ sym (simp e)
 
-  module _ {r : ListRead} (none : r ≡ record { valid = false; titles = noTitles }) where
-    pub valid-other : not alone ≡ true → r ≡ listRead alone lost l (namesIn c)
-    unfolding listValid
-    valid-other h = invalid (simp (not-true alone h)) none
-
-    pub valid-unformed : {f : Found} → not alone ≡ false → FoundIn lost l f → not (f .form) ≡ true → r ≡ listRead alone lost l (namesIn c)
-    unfolding listValid
-    valid-unformed {f} h w g = invalid (simp (sym (w .form) ∙ not-true (f .form) g, and-false)) none
+  pub valid-unformed : {r : ListRead} {f : Found} → r ≡ record { valid = false; titles = noTitles } → FoundIn lost l f → not (f .form) ≡ true
+      → r ≡ listRead lost l (namesIn c)
+  unfolding listValid
+  valid-unformed {f = f} none w g = invalid (simp (sym (w .form) ∙ not-true (f .form) g)) none
 
   module _ {f : Found} (w : FoundIn lost l f) (g : not (f .form) ≡ false) where
     stands : Stands l (f .titles)
@@ -84,11 +80,11 @@ module _ (alone lost : Bool) (l : List ℕ) (c : Cues) where
     unfolding listForm
     valid-few = omega (arith, stands .many, leb-true (length (entriesIn l)) 128 (and-both (tiles lost l) (leb (length (entriesIn l)) 128) formed .1))
 
-    module _ (h : not alone ≡ false) {b : Bool} (e : b ≡ entriesRule (namesIn c) (entriesOf l (f .titles))) where
+    module _ {b : Bool} (e : b ≡ entriesRule (namesIn c) (entriesOf l (f .titles))) where
       ruled : b ≡ entriesRule (namesIn c) (entriesIn l)
       ruled = e ∙ ap (entriesRule (namesIn c)) (stands .entries)
 
-      pub valid-broken : {r : ListRead} → r ≡ record { valid = false; titles = noTitles } → not b ≡ true → r ≡ listRead alone lost l (namesIn c)
+      pub valid-broken : {r : ListRead} → r ≡ record { valid = false; titles = noTitles } → not b ≡ true → r ≡ listRead lost l (namesIn c)
       unfolding listValid
       valid-broken none k = invalid (simp (sym ruled ∙ not-true b k, and-false)) none
 
@@ -102,7 +98,7 @@ module _ (alone lost : Bool) (l : List ℕ) (c : Cues) where
         valid-short i o = omega (arith, stands .long i o, kept i o .short)
 
         pub valid-made : {places : List Title} → places ≡ inTurn 0 (take (f .titles .count) (f .titles .list)) ++ replicate (128 - f .titles .count) noTitle
-            → record { valid = true; titles = record { count = f .titles .count; list = places } } ≡ listRead alone lost l (namesIn c)
+            → record { valid = true; titles = record { count = f .titles .count; list = places } } ≡ listRead lost l (namesIn c)
         unfolding listRead listValid tableOf firstEntries
         valid-made e =
             let ts : List Title = take (f .titles .count) (f .titles .list) in
@@ -113,9 +109,9 @@ module _ (alone lost : Bool) (l : List ℕ) (c : Cues) where
             ∙ ap (placedFrom 0) (stands .entries) in
             let m : f .titles .count ≡ length (placedFrom 0 (entriesIn l)) = stands .many ∙ sym (placed-long 0 (entriesIn l)) in
             (λ i. record { valid = true; titles = record { count = m i; list = (e ∙ (λ j. p j ++ replicate (128 - m j) noTitle)) i } })
-            ∙ sym (simp (not-false alone h, formed, sym ruled ∙ not-false b k))
+            ∙ sym (simp (formed, sym ruled ∙ not-false b k))
 
-pub ruleset valid-list = (valid-other, valid-unformed, valid-few, valid-broken, valid-short, valid-made)
+pub ruleset valid-list = (valid-unformed, valid-few, valid-broken, valid-short, valid-made)
 
 -- ---- the texts of a list that has its form
 module _ {lost : Bool} {l : List ℕ} {f : Found} (w : FoundIn lost l f) (e : listForm lost l ≡ true) where

@@ -80,7 +80,7 @@ module _ (names s : List ℕ) (t : Titles) (fit : TitlesFit t) (e : titlesRight 
   unfolding titlesKept firstEntries
   round-titles = ap tableFor round-entries ∙ ap tableOf (row-placed 0 s (take (t .count) (t .list)) (right-first .1))
 
-  pub round-valid : (lost : Bool) → listValid true lost (listBytes es) names ≡ true
+  pub round-valid : (lost : Bool) → listValid lost (listBytes es) names ≡ true
   unfolding listValid
   round-valid lost =
       let r : entriesRule names (entriesIn (listBytes es)) ≡ true = ap (entriesRule names) round-entries ∙ right-both .1 in
@@ -95,7 +95,7 @@ pub none-titles : titlesOf [] ≡ noTitles
 unfolding tableOf placedFrom
 none-titles = ap tableFor none-in
 
-pub none-valid : (lost : Bool) (names : List ℕ) → listValid true lost [] names ≡ true
+pub none-valid : (lost : Bool) (names : List ℕ) → listValid lost [] names ≡ true
 unfolding listValid listForm tiles tilesBy entriesRule eachRule every namesBy distinct
 none-valid lost names = simp none-in
 
@@ -107,13 +107,13 @@ titles-kept l =
     ap tableOf (take-at ts (replicate (128 - length ts) noTitle) (length ts) refl)
 
 -- ---- a list that is valid
-module _ (alone lost : Bool) (l names : List ℕ) (e : listValid alone lost l names ≡ true) where
-  valid-both : ((alone && listForm lost l) ≡ true) × (entriesRule names (entriesIn l) ≡ true)
+module _ (lost : Bool) (l names : List ℕ) (e : listValid lost l names ≡ true) where
+  valid-both : (listForm lost l ≡ true) × (entriesRule names (entriesIn l) ≡ true)
   unfolding listValid
-  valid-both = and-both (alone && listForm lost l) (entriesRule names (entriesIn l)) e
+  valid-both = and-both (listForm lost l) (entriesRule names (entriesIn l)) e
 
   pub valid-form : listForm lost l ≡ true
-  valid-form = and-both alone (listForm lost l) (valid-both .0) .1
+  valid-form = valid-both .0
 
   pub valid-rule : entriesRule names (entriesIn l) ≡ true
   valid-rule = valid-both .1

@@ -75,18 +75,18 @@ tiles lost l = tilesBy lost (length l) (drop 4 l)
 unfoldable pub listForm : Bool → List ℕ → Bool
 listForm lost l = tiles lost l && leb (length (entriesIn l)) 128
 
--- ---- the whole: it is the only one of its file, has its form, and its titles keep the rule; names are those of the cues
-unfoldable pub listValid : Bool → Bool → List ℕ → List ℕ → Bool
-listValid alone lost l names = alone && listForm lost l && entriesRule names (entriesIn l)
+-- ---- the whole: it has its form, and its titles keep the rule; names are those of the cues
+unfoldable pub listValid : Bool → List ℕ → List ℕ → Bool
+listValid lost l names = listForm lost l && entriesRule names (entriesIn l)
 
 -- its titles, as a record holds them
 abbrev pub titlesOf : List ℕ → Titles
 titlesOf l = tableFor (entriesIn l)
 
 -- whether it is valid, and then its titles
-unfoldable pub listRead : Bool → Bool → List ℕ → List ℕ → ListRead
-listRead alone lost l names =
-    cond (listValid alone lost l names)
+unfoldable pub listRead : Bool → List ℕ → List ℕ → ListRead
+listRead lost l names =
+    cond (listValid lost l names)
     (record { valid = true; titles = titlesOf l })
     (record { valid = false; titles = noTitles })
 

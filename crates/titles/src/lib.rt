@@ -393,15 +393,12 @@ fn not_valid() -> ListRead
     }
 }
 
-// What is read of a list, with the cues of its file: it must be the only one. Whether its own pad is lost
-// says whether that of its last chunk may be.
-pub fn read_list(list: &[u8], alone: bool, lost: bool, cues: Cues) -> ListRead
+// What is read of a list, with the cues of its file. Whether its own pad is lost says whether that of its
+// last chunk may be.
+pub fn read_list(list: &[u8], lost: bool, cues: Cues) -> ListRead
     requires { ⌜ length (now list) ≤ fileLimit ⌝ }
-    ensures answer { λ r. ⌜ r ≡ listRead alone lost (now (list .entry)) (namesIn cues) ⌝ }
+    ensures answer { λ r. ⌜ r ≡ listRead lost (now (list .entry)) (namesIn cues) ⌝ }
 {
-    if !alone {
-        return not_valid();
-    }
     let found = find_titles(list, lost);
     if !found.form {
         return not_valid();
