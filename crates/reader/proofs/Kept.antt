@@ -1,6 +1,6 @@
 -- What a file that is taken keeps, by the verdict on its chunks; and what a file holds, in the words of callers. Assumes nothing.
 use mathlib.Core.Path.{_≡_, refl, sym, ap, _∙_, subst}
-use mathlib.Core.Bool.{Bool, true}
+use mathlib.Core.Bool.{Bool, true, not}
 use mathlib.Core.List.{List}
 use Prim.Native.Nat.{ℕ}
 use lib.ListN.{length}
@@ -13,16 +13,17 @@ use Rattle.units.proofs.Checks.{all-met}
 use Rattle.riff.specs.declared.Directory.{Directory}
 use Rattle.riff.specs.declared.Walked.{Walked}
 use Rattle.riff.specs.declared.Walked.the-variants.{Whole, Stopped}
-use Rattle.riff.specs.Chunks.{isThere}
+use Rattle.riff.specs.Chunks.{isThere, padLost}
 use Rattle.riff.specs.Walk.{directoryOf}
 use Rattle.formats.specs.Format.{formatForm}
 use Rattle.formats.specs.Frames.{factForm, Sounding}
-use Rattle.tables.specs.Cues.{cuesForm}
+use Rattle.tables.specs.Cues.{namesIn, cuesForm}
 use Rattle.tables.specs.Plays.{playsForm}
+use Rattle.titles.specs.Lists.{listValid}
 use Rattle.rules.specs.declared.Record.{Record}
 use Rattle.rules.specs.declared.Reading.{Reading}
 use Rattle.rules.specs.Rules.{valid, chunkChecks, Writable}
-use Rattle.reader.specs.Content.{Content, refused, holds, contentBy, formatPart, soundPart, soundSize, factPart, cuePart, playlistPart, recordAt, checksAt, verdictAt, contentIn, contentOf, reading, soundIn}
+use Rattle.reader.specs.Content.{Content, refused, holds, contentBy, formatPart, soundPart, soundSize, factPart, cuePart, playlistPart, titlesPart, recordAt, titlesValid, chunksChecks, checksAt, verdictAt, contentIn, contentOf, reading, soundIn}
 use Rattle.reader.specs.Demands.{Tied}
 use Rattle.reader.proofs.Demands.{tied}
 
@@ -68,9 +69,10 @@ pub record Formed (s : List ℕ) (d : Directory) : Type 0 where
   pub cues : cuesForm (cuePart s d) ≡ true
   pub plays : playsForm (playlistPart s d) ≡ true
   pub rules : Writable (recordAt s d) (soundSize s d)
+  pub titles : titlesValid s d ≡ true
 
 pub formed : (s : List ℕ) (d : Directory) → verdictAt s d ≡ Accepted → Formed s d
-unfolding checksAt chunkChecks AllMet
+unfolding checksAt chunksChecks chunkChecks AllMet
 formed s d e =
     let a = all-met (checksAt s d) e .1 .1 in
     let f = both (a .0) in
@@ -83,7 +85,12 @@ formed s d e =
       cues = c .0;
       plays = p .0;
       rules = record { format = f .1; whole = a .1 .0; count = g .1; cues = c .1; plays = p .1 };
+      titles = a .1 .1 .1 .1 .1 .0;
     }
+
+-- the list of titles is valid, and the only one
+pub titles-valid : (s : List ℕ) (d : Directory) → Formed s d → listValid (padLost (d .titles)) (titlesPart s d) (namesIn (recordAt s d .cues)) ≡ true
+titles-valid s d f = and-both (not (d .second)) (listValid (padLost (d .titles)) (titlesPart s d) (namesIn (recordAt s d .cues))) (f .titles) .1
 
 -- ---- in the words of callers
 module _ (s : List ℕ) {x : Reading} (e : x ≡ reading s) where

@@ -25,7 +25,7 @@ use Rattle.formats.specs.Frames.{needsFact}
 use Rattle.rules.specs.declared.Record.{Record}
 use Rattle.rules.specs.declared.Reading.{Reading}
 use Rattle.rules.specs.Rules.{turnedAway, readingBy, judged}
-use Rattle.reader.specs.Content.{Content, contentBy, zeros, formatPart, soundPart, cuePart, playlistPart, chunksAt, recordAt, checksAt, verdictAt, contentAt, contentIn, contentOf, readingOf, reading, spotBy, soundSpot}
+use Rattle.reader.specs.Content.{Content, contentBy, zeros, formatPart, soundPart, cuePart, playlistPart, chunksAt, recordAt, judgedAt, checksAt, verdictAt, contentAt, contentIn, contentOf, readingOf, reading, spotBy, soundFrom, soundSpot, titlesFrom, titlesSpot}
 
 -- ---- parts
 module _ (s : List ℕ) (spot : Spot) (f : Format) (needed needless : List ℕ) {a : Bool} (e : a ≡ needsFact f) {r : List ℕ} where
@@ -56,8 +56,8 @@ module _ (s : List ℕ) (d : Directory) where
       unfolding checksAt
       read-no-sound u g = reading-by g (check-met FormatOrDataMissing _ e t (check-fails FormatOrDataMissing _ f u))
 
-      pub read-both : {x : Reading} → not b ≡ false → x ≡ judged (chunksAt s d) → x ≡ readingOf (contentAt s d)
-      unfolding checksAt judged
+      pub read-both : {x : Reading} → not b ≡ false → x ≡ judgedAt s d → x ≡ readingOf (contentAt s d)
+      unfolding checksAt judgedAt
       read-both u g = reading-by g (check-met FormatOrDataMissing _ e t (check-met FormatOrDataMissing _ f u refl))
 
 pub ruleset chunks = (read-no-format, read-no-sound, read-both)
@@ -90,26 +90,48 @@ module _ (s : List ℕ) {w : Walked} (e : w ≡ directoryOf s) where
   unfolding reading
   read-whole f g = g ∙ sym (ap readingOf (content-by f))
 
-  -- ---- where its sound stands
-  spot-by : {v : Verdict} {u : Walked} → reading s .verdict ≡ v → w ≡ u → spotBy v u ≡ soundSpot s
-  unfolding soundSpot
-  spot-by f g = simp (f, ← e, g)
+  -- ---- where a chunk of it stands
+  spot-by : (which : Directory → Spot) {v : Verdict} {u : Walked} → reading s .verdict ≡ v → w ≡ u
+      → spotBy which v u ≡ spotBy which (reading s .verdict) (directoryOf s)
+  spot-by which f g = simp (f, ← e, g)
 
-  pub spot-stopped : {r : Refusal} → w ≡ Stopped r → Missing ≡ soundSpot s
+  verdict-by : {v : Walked} → w ≡ v → reading s .verdict ≡ readingOf (contentIn s v) .verdict
   unfolding reading
-  spot-stopped f = spot-by (ap (λ (c : Content). readingOf c .verdict) (content-by f)) f
+  verdict-by f = ap (λ (c : Content). readingOf c .verdict) (content-by f)
 
-  pub spot-whole : {d : Directory} {spot : Spot} → w ≡ Whole d → spot ≡ spotBy (readingOf (contentAt s d) .verdict) (Whole d)
-      → spot ≡ soundSpot s
-  unfolding reading
-  spot-whole f g = g ∙ spot-by (ap (λ (c : Content). readingOf c .verdict) (content-by f)) f
+  module _ {r : Refusal} (f : w ≡ Stopped r) where
+    pub sound-stopped : Missing ≡ soundSpot s
+    unfolding soundSpot
+    sound-stopped = spot-by soundFrom (verdict-by f) f
 
--- a directory's sound stands where it says, if its chunks are taken
-module _ (d : Directory) {x y : Reading} (e : x ≡ y) where
-  pub spot-refused : {r : Refusal} → x .verdict ≡ Refused r → Missing ≡ spotBy (y .verdict) (Whole d)
-  spot-refused h = ap (λ (v : Verdict). spotBy v (Whole d)) (sym h ∙ ap (λ (z : Reading). z .verdict) e)
+    pub titles-stopped : Missing ≡ titlesSpot s
+    unfolding titlesSpot
+    titles-stopped = spot-by titlesFrom (verdict-by f) f
 
-  pub spot-taken : x .verdict ≡ Accepted → d .sound ≡ spotBy (y .verdict) (Whole d)
-  spot-taken h = ap (λ (v : Verdict). spotBy v (Whole d)) (sym h ∙ ap (λ (z : Reading). z .verdict) e)
+  module _ {d : Directory} {spot : Spot} (f : w ≡ Whole d) where
+    pub sound-whole : spot ≡ spotBy soundFrom (readingOf (contentAt s d) .verdict) (Whole d) → spot ≡ soundSpot s
+    unfolding soundSpot
+    sound-whole g = g ∙ spot-by soundFrom (verdict-by f) f
 
-pub ruleset whole = (whole-limit, read-stopped, read-whole, spot-stopped, spot-whole, spot-refused, spot-taken)
+    pub titles-whole : spot ≡ spotBy titlesFrom (readingOf (contentAt s d) .verdict) (Whole d) → spot ≡ titlesSpot s
+    unfolding titlesSpot
+    titles-whole g = g ∙ spot-by titlesFrom (verdict-by f) f
+
+-- a directory's chunk stands where it says, if its chunks are taken
+module _ (which : Directory → Spot) (d : Directory) {x y : Reading} (e : x ≡ y) where
+  pub spot-refused : {r : Refusal} → x .verdict ≡ Refused r → Missing ≡ spotBy which (y .verdict) (Whole d)
+  spot-refused h = ap (λ (v : Verdict). spotBy which v (Whole d)) (sym h ∙ ap (λ (z : Reading). z .verdict) e)
+
+  spot-taken : x .verdict ≡ Accepted → which d ≡ spotBy which (y .verdict) (Whole d)
+  spot-taken h = ap (λ (v : Verdict). spotBy which v (Whole d)) (sym h ∙ ap (λ (z : Reading). z .verdict) e)
+
+module _ (d : Directory) {x y : Reading} (e : x ≡ y) (h : x .verdict ≡ Accepted) where
+  pub sound-taken : d .sound ≡ spotBy soundFrom (y .verdict) (Whole d)
+  sound-taken = spot-taken soundFrom d e h
+
+  pub titles-taken : d .titles ≡ spotBy titlesFrom (y .verdict) (Whole d)
+  titles-taken = spot-taken titlesFrom d e h
+
+pub ruleset whole =
+    (whole-limit, read-stopped, read-whole, sound-stopped, titles-stopped, sound-whole, titles-whole, spot-refused, sound-taken,
+    titles-taken)

@@ -1,29 +1,35 @@
-// Reading a WAVE file: its record, and its sound as that very part of the file.
+// Reading a WAVE file: its record, the texts of its titles, and its sound as that very part of the file.
 //
-// The cost goes by the number of chunks; the sound is not looked at.
+// The cost goes by the number of chunks and of titles; the sound is not looked at.
 use formats::Format;
 use riff::Directory;
 use riff::Spot;
 use riff::Walked;
 use rules::Reading;
+use rules::Record;
 use units::BytePlace;
 use units::Refusal;
 use units::Verdict;
 ghost use mathlib.Core.Path.{_≡_};
 ghost use Prim.Native.Nat.{_+_, _≤_};
 ghost use mathlib.Core.Bool.{cond};
+ghost use lib.Dec.{leb};
 ghost use lib.ListN.{length};
 ghost use Rattle.units.specs.Refusals.{fileLimit};
+ghost use Rattle.units.specs.declared.Verdict.the-variants.{Accepted};
+ghost use Rattle.little.specs.Writing.{front, holding};
 ghost use Rattle.formats.specs.Frames.{needsFact};
 ghost use Rattle.riff.specs.Walk.{partOf};
 ghost use Rattle.rules.specs.Rules.{judged};
 ghost use Rattle.riff.specs.declared.Walked.the-variants.{Whole};
-ghost use Rattle.reader.specs.Content.{chunksAt, contentAt, readingOf, reading, spotBy, soundSpot, soundIn, soundStart};
+ghost use Rattle.reader.specs.Content.{chunksAt, contentAt, listed, judgedAt, readingOf, reading, spotBy, soundFrom, soundSpot, soundIn, soundStart};
+ghost use Rattle.reader.specs.Content.{titlesFrom, titlesSpot, textsIn, readingIn};
 
-// What a file says, and where its sound data stand.
+// What a file says, and where its sound data and its list of titles stand.
 pub struct Opened {
     pub answer: Reading,
     pub sound: Spot,
+    pub titles: Spot,
 }
 
 // The data of a chunk, or what is lent in its place: what it holds, and not where it stands, is asked.
@@ -70,6 +76,42 @@ fn read_parts(file: &[u8], places: Directory) -> Reading
     rules::judge(fmt, format, BytePlace(sound.len()), fact, cue, plst)
 }
 
+// A record with the titles of a list, whose own pad is lost or not, or the refusal.
+fn with_list(made: Record, list: &[u8], lost: bool) -> Reading
+    requires { ⌜ length (now list) ≤ fileLimit ⌝ }
+    ensures answer { λ r. ⌜ r ≡ listed made lost (now (list .entry)) ⌝ }
+{
+    let cues = made.cues;
+    let read = titles::read_list(list, lost, cues);
+    if !read.valid {
+        return rules::turned_away(Refusal::TitlesWrong);
+    }
+    Reading {
+        verdict: Verdict::Accepted,
+        made: rules::with_titles(made, read.titles),
+    }
+}
+
+// What a file says with its titles, and the verdict on it. Where there is no list, nothing more is done.
+fn read_titles(file: &[u8], places: Directory, untitled: Reading) -> Reading
+    requires { ⌜ (length (now file) ≤ fileLimit) × (untitled ≡ judged (chunksAt (now file) places)) ⌝ }
+    ensures answer { λ r. ⌜ r ≡ judgedAt (now (file .entry)) places ⌝ }
+{
+    let verdict = untitled.verdict;
+    let Verdict::Accepted = verdict else {
+        return untitled;
+    };
+    if places.second {
+        return rules::turned_away(Refusal::TitlesWrong);
+    }
+    let spot = places.titles;
+    if !riff::there(spot) {
+        return untitled;
+    }
+    let list = chunk_data(file, spot, b"");
+    with_list(untitled.made, list, riff::pad_lost(spot))
+}
+
 // What a file with these chunks says.
 fn read_chunks(file: &[u8], places: Directory) -> Reading
     requires { ⌜ length (now file) ≤ fileLimit ⌝ }
@@ -83,14 +125,18 @@ fn read_chunks(file: &[u8], places: Directory) -> Reading
     if !riff::there(sound) {
         return rules::turned_away(Refusal::FormatOrDataMissing);
     }
-    read_parts(file, places)
+    let untitled = read_parts(file, places);
+    read_titles(file, places, untitled)
 }
 
-// The same, and where the sound data stand; of a refused file, nowhere.
+// The same, and where the sound data and the list of titles stand; of a refused file, nowhere.
 fn open_chunks(file: &[u8], places: Directory) -> Opened
     requires { ⌜ length (now file) ≤ fileLimit ⌝ }
     ensures answer { λ r. ⌜ r .answer ≡ readingOf (contentAt (now (file .entry)) places) ⌝ }
-    ensures sound { λ r. ⌜ r .sound ≡ spotBy (readingOf (contentAt (now (file .entry)) places) .verdict) (Whole places) ⌝ }
+    ensures sound { λ r. ⌜ r .sound
+        ≡ spotBy soundFrom (readingOf (contentAt (now (file .entry)) places) .verdict) (Whole places) ⌝ }
+    ensures titles { λ r. ⌜ r .titles
+        ≡ spotBy titlesFrom (readingOf (contentAt (now (file .entry)) places) .verdict) (Whole places) ⌝ }
 {
     let answer = read_chunks(file, places);
     let verdict = answer.verdict;
@@ -98,19 +144,23 @@ fn open_chunks(file: &[u8], places: Directory) -> Opened
         return Opened {
             answer: answer,
             sound: Spot::Missing,
+            titles: Spot::Missing,
         };
     };
-    let spot = places.sound;
+    let sound = places.sound;
+    let titles = places.titles;
     Opened {
         answer: answer,
-        sound: spot,
+        sound: sound,
+        titles: titles,
     }
 }
 
-// The record of a file, or the refusal, and where its sound data stand.
+// The record of a file, or the refusal, and where its sound data and its list of titles stand.
 pub fn open(file: &[u8]) -> Opened
     ensures answer { λ r. ⌜ r .answer ≡ reading (now (file .entry)) ⌝ }
     ensures sound { λ r. ⌜ r .sound ≡ soundSpot (now (file .entry)) ⌝ }
+    ensures titles { λ r. ⌜ r .titles ≡ titlesSpot (now (file .entry)) ⌝ }
 {
     let walked = riff::chunks(file);
     match walked {
@@ -118,16 +168,47 @@ pub fn open(file: &[u8]) -> Opened
         Walked::Stopped(refusal) => Opened {
             answer: rules::turned_away(refusal),
             sound: Spot::Missing,
+            titles: Spot::Missing,
         },
     }
 }
 
-// The record of a file, or the refusal.
-pub fn read(file: &[u8]) -> Reading
-    ensures answer { λ r. ⌜ r ≡ reading (now (file .entry)) ⌝ }
+// Puts the texts of a file that was read from the start of a lent buffer, where there is room for them.
+fn put_texts(file: &[u8], opened: Opened, texts: &mut [u8]) -> bool
+    requires { ⌜ (opened .answer ≡ reading (now file)) × (opened .answer .verdict ≡ Accepted) × (opened .titles ≡ titlesSpot (now file)) ⌝ }
+    ensures answer { λ r. ⌜ r ≡ leb (length (textsIn (now (file .entry)))) (length (now (texts .entry))) ⌝ }
+    ensures buffer { λ r. ⌜ now (texts .exit) ≡ cond r (front (textsIn (now (file .entry))) (now (texts .entry))) (now (texts .entry)) ⌝ }
+{
+    let answer = opened.answer;
+    let made = answer.made;
+    let titles = made.titles;
+    let spot = opened.titles;
+    if texts.len() < titles::texts_end(titles) {
+        return false;
+    }
+    if !riff::there(spot) {
+        return true;
+    }
+    let list = chunk_data(file, spot, b"");
+    titles::put_texts(list, riff::pad_lost(spot), texts);
+    true
+}
+
+// The record of a file, or the refusal; the texts of its titles go to a lent buffer, from its start.
+pub fn read(file: &[u8], texts: &mut [u8]) -> Reading
+    ensures answer { λ r. ⌜ r ≡ readingIn (now (file .entry)) (length (now (texts .entry))) ⌝ }
+    ensures buffer { λ r. ⌜ now (texts .exit) ≡ holding (r .verdict) (textsIn (now (file .entry))) (now (texts .entry)) ⌝ }
 {
     let opened = open(file);
-    opened.answer
+    let answer = opened.answer;
+    let verdict = answer.verdict;
+    let Verdict::Accepted = verdict else {
+        return answer;
+    };
+    if !put_texts(file, opened, texts) {
+        return rules::turned_away(Refusal::OutputTooSmall);
+    }
+    answer
 }
 
 // Where the sound data of a file stand; of a refused file, nowhere.

@@ -19,6 +19,7 @@ use Rattle.little.proofs.Reading.{length-bytes, number-fits, taken-bytes, dropp
 use Rattle.codes.specs.Codes.{codeBytes}
 use Rattle.codes.specs.declared.Code.the-variants as code
 use Rattle.codes.proofs.Bytes.{length-code, code-bytes}
+use Rattle.tables.specs.Bytes.{entryBytes}
 use Rattle.riff.specs.Chunks.{sizeAt, endAt, nextAt, passes}
 use Rattle.riff.specs.Laying.{piece, bodyBytes}
 use Rattle.riff.proofs.Laying.{length-body}
@@ -91,6 +92,10 @@ pub none-in : entriesIn [] ≡ []
 unfolding entriesIn entriesBy
 none-in = refl
 
+pub none-texts : textsOf (entriesIn []) ≡ []
+unfolding textsOf entryBytes
+none-texts = ap textsOf none-in
+
 pub none-titles : titlesOf [] ≡ noTitles
 unfolding tableOf placedFrom
 none-titles = ap tableFor none-in
@@ -105,6 +110,23 @@ unfolding titlesKept tableOf
 titles-kept l =
     let ts : List Title = placedFrom 0 (entriesIn l) in
     ap tableOf (take-at ts (replicate (128 - length ts) noTitle) (length ts) refl)
+
+-- past its count a table is zero
+past-none : (ts : List Title) (n i : ℕ) → getD (ts ++ replicate n noTitle) i noTitle ≡ getD ts i noTitle
+past-none [] zero i = refl
+past-none [] (suc n) zero = refl
+past-none [] (suc n) (suc i) = past-none [] n i
+past-none (t ∷ ts) n zero = refl
+past-none (t ∷ ts) n (suc i) = past-none ts n i
+
+pub titles-zero : (l : List ℕ) (i : ℕ) → titlesOf l .count ≤ i → getD (titlesOf l .list) i noTitle ≡ noTitle
+unfolding tableOf
+titles-zero l i h = let ts : List Title = placedFrom 0 (entriesIn l) in past-none ts (128 - length ts) i ∙ past ts i h
+  where
+    past : (ts : List Title) (k : ℕ) → length ts ≤ k → getD ts k noTitle ≡ noTitle
+    past [] k g = refl
+    past (t ∷ ts) zero g = absurd (omega arith)
+    past (t ∷ ts) (suc k) g = past ts k (omega arith)
 
 -- ---- a list that is valid
 module _ (lost : Bool) (l names : List ℕ) (e : listValid lost l names ≡ true) where
@@ -125,6 +147,10 @@ module _ (lost : Bool) (l names : List ℕ) (e : listValid lost l names ≡ true
   pub valid-few : length (entriesIn l) ≤ 128
   valid-few = leb-true (length (entriesIn l)) 128 (form-both .1)
 
+  pub valid-count : titlesOf l .count ≤ 128
+  unfolding tableOf
+  valid-count = omega (arith, placed-long 0 (entriesIn l), valid-few)
+
   valid-some : NoneEmpty (entriesIn l)
   valid-some i h = rule-kept names (getD (entriesIn l) i noEntry) (entry-kept names (entriesIn l) valid-rule i h) .some
 
@@ -132,9 +158,11 @@ module _ (lost : Bool) (l names : List ℕ) (e : listValid lost l names ≡ true
   pub valid-ends : textsEnd (titlesOf l) ≡ length (textsOf (entriesIn l))
   valid-ends = ends-placed (entriesIn l) valid-some
 
-  pub valid-there : entriesOf (textsOf (entriesIn l)) (titlesOf l) ≡ entriesIn l
-  valid-there =
-      ap (λ (s : List ℕ). entriesOf s (titlesOf l)) (sym (append-nil (textsOf (entriesIn l)))) ∙ texts-back (entriesIn l) [] valid-some
+  pub valid-there : (rest : List ℕ) → entriesOf (textsOf (entriesIn l) ++ rest) (titlesOf l) ≡ entriesIn l
+  valid-there rest = texts-back (entriesIn l) rest valid-some
+
+  valid-whole : entriesOf (textsOf (entriesIn l)) (titlesOf l) ≡ entriesIn l
+  valid-whole = ap (λ (s : List ℕ). entriesOf s (titlesOf l)) (sym (append-nil (textsOf (entriesIn l)))) ∙ valid-there []
 
   -- its titles may be written with its texts, whatever the cues, where they keep the rule
   pub valid-right : (cues : List ℕ) → entriesRule cues (entriesIn l) ≡ true → titlesRight cues (textsOf (entriesIn l)) (titlesOf l) ≡ true
@@ -145,7 +173,7 @@ module _ (lost : Bool) (l names : List ℕ) (e : listValid lost l names ≡ true
       let row : inRow (length (textsOf (entriesIn l))) 0 (take (length ts) (ts ++ replicate (128 - length ts) noTitle)) ≡ true =
       ap (inRow (length (textsOf (entriesIn l))) 0) (take-at ts (replicate (128 - length ts) noTitle) (length ts) refl)
       ∙ placed-row (length (textsOf (entriesIn l))) 0 (entriesIn l) valid-some (omega arith) in
-      let rule = ap (entriesRule cues) valid-there ∙ r in
+      let rule = ap (entriesRule cues) valid-whole ∙ r in
       simp (le-leb (length ts) 128 n, row, rule)
 
 -- ---- with one cue more the rule is kept too
@@ -190,13 +218,6 @@ unfolding placedFrom
 placed-name [] at i = refl
 placed-name (e ∷ es) at zero = refl
 placed-name (e ∷ es) at (suc i) = placed-name es (at + length (e .text)) i
-
-past-none : (ts : List Title) (n i : ℕ) → getD (ts ++ replicate n noTitle) i noTitle ≡ getD ts i noTitle
-past-none [] zero i = refl
-past-none [] (suc n) zero = refl
-past-none [] (suc n) (suc i) = past-none [] n i
-past-none (t ∷ ts) n zero = refl
-past-none (t ∷ ts) n (suc i) = past-none ts n i
 
 pub titles-fit : (l : List ℕ) → T (areBytes l) → length (entriesIn l) ≤ 128 → TitlesFit (titlesOf l)
 unfolding tableOf entriesIn
