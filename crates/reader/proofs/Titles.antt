@@ -8,6 +8,8 @@ use native.Mathlib.Omega.{arith}
 use lib.Dec.{leb}
 use lib.ListN.{length, length-take, length-drop}
 use borrow.Author.Tests.{not-true, not-false, lt-leb, le-leb}
+use Rattle.lists.specs.Among.{distinct}
+use Rattle.lists.specs.Every.{every}
 use Rattle.little.specs.Writing.{front, holding}
 use Rattle.units.specs.Refusals.{fileLimit}
 use Rattle.units.specs.declared.Refusal.{Refusal}
@@ -29,16 +31,17 @@ use Rattle.tables.specs.Cues.{namesIn}
 use Rattle.tables.specs.Bytes.{entryBytes}
 use Rattle.titles.specs.declared.Titles.{Titles}
 use Rattle.titles.specs.declared.ListRead.{ListRead}
-use Rattle.titles.specs.Titles.{firstEntries, entriesOf, textsOf, textsEnd, noTitles}
+use Rattle.titles.specs.Titles.{Entry, firstEntries, entriesOf, eachRule, namesBy, entriesRule, textsOf, textsEnd, noTitles}
 use Rattle.titles.specs.Lists.{entriesIn, listForm, listValid, titlesOf, listRead}
-use Rattle.titles.proofs.Round.{none-in, none-texts, none-titles, none-valid, valid-form, valid-count, valid-ends, valid-there}
+use Rattle.titles.specs.Writing.{inRow, titlesRight}
+use Rattle.titles.proofs.Round.{none-in, none-texts, none-titles, none-valid, valid-form, valid-rule, valid-count, valid-ends, valid-there, valid-whole, valid-right}
 use Rattle.rules.specs.declared.Record.{Record}
 use Rattle.rules.specs.declared.Reading.{Reading}
 use Rattle.rules.specs.Rules.{ChunkBytes, recordOf, withTitles, chunkChecks, verdictOf, turnedAway, readingBy, judged}
 use Rattle.reader.specs.Content.{Content, contentBy, soundPart, titlesPart, chunksAt, recordAt, titlesValid, chunksChecks, listed, judgedAt, checksAt, verdictAt, contentIn, contentOf, readingOf, reading, spotBy, soundFrom, soundSpot, titlesFrom, titlesSpot, titlesIn, textsIn, readingIn}
 use Rattle.reader.specs.Demands.{Refusing, TitlesTold}
 use Rattle.reader.proofs.Demands.{by-file, refusing}
-use Rattle.reader.proofs.Kept.{formed, titles-valid}
+use Rattle.reader.proofs.Kept.{Held, formed, titles-valid}
 
 -- ---- a record with the titles of a list
 module _ (m : Record) (lost : Bool) (l : List ℕ) {r : ListRead} (e : r ≡ listRead lost l (namesIn (m .cues))) where
@@ -254,3 +257,42 @@ titles-told s rest =
     (λ r. sym none-in)
     (λ d w v.
     valid-there (padLost (d .titles)) (titlesPart s d) (namesIn (recordAt s d .cues)) (titles-valid s d (formed s d v)) rest)
+
+-- ---- the titles of a file that is taken, by where its list stands
+module _ (s : List ℕ) {m : Record} {w : List ℕ} (h : Held s m w) where
+  abbrev list : List ℕ
+  list = titlesPart s (h .places)
+
+  pub titles-held : titlesIn s ≡ entriesIn (titlesPart s (h .places))
+  unfolding titlesIn titlesSpot reading contentOf
+  titles-held =
+      let d : Directory = h .places in
+      ap (λ (x : Spot). entriesIn (partOf s x []))
+      ((λ i. spotBy titlesFrom (readingOf (contentIn s (h .walked i)) .verdict) (h .walked i))
+      ∙ (λ i. spotBy titlesFrom (readingOf (contentBy (h .verdict i) (recordAt s d) (soundPart s d)) .verdict) (Whole d)))
+
+  held-valid : listValid (padLost (h .places .titles)) (titlesPart s (h .places)) (namesIn (recordAt s (h .places) .cues)) ≡ true
+  held-valid = titles-valid s (h .places) (formed s (h .places) (h .verdict))
+
+  pub texts-held : entriesOf (textsIn s) (titlesOf (titlesPart s (h .places))) ≡ entriesIn (titlesPart s (h .places))
+  texts-held =
+      ap (λ (es : List Entry). entriesOf (textsOf es) (titlesOf list)) titles-held
+      ∙ valid-whole (padLost (h .places .titles)) list (namesIn (recordAt s (h .places) .cues)) held-valid
+
+-- ---- every record that is read has its titles as they may be written, with any cues that they keep the rule with
+pub read-rule : (s : List ℕ) → entriesRule (namesIn (reading s .made .cues)) (titlesIn s) ≡ true
+unfolding titlesIn entriesRule eachRule every namesBy distinct
+read-rule s =
+    by-file s (λ r a t. entriesRule (namesIn (r .made .cues)) (entriesIn (partOf s t [])) ≡ true)
+    (λ r. ap (entriesRule (namesIn (turnedAway r .made .cues))) none-in)
+    (λ d w v. valid-rule (padLost (d .titles)) (titlesPart s d) (namesIn (recordAt s d .cues)) (titles-valid s d (formed s d v)))
+
+pub read-right-for : (s cues : List ℕ) → entriesRule cues (titlesIn s) ≡ true → titlesRight cues (textsIn s) (reading s .made .titles) ≡ true
+unfolding titlesIn titlesRight inRow firstEntries
+read-right-for s cues =
+    by-file s (λ r a t. entriesRule cues (entriesIn (partOf s t [])) ≡ true → titlesRight cues (textsOf (entriesIn (partOf s t []))) (r .made .titles) ≡ true)
+    (λ r e. sym (ap (entriesRule cues) none-in) ∙ e)
+    (λ d w v e. valid-right (padLost (d .titles)) (titlesPart s d) (namesIn (recordAt s d .cues)) (titles-valid s d (formed s d v)) cues e)
+
+pub read-right : (s : List ℕ) → titlesRight (namesIn (reading s .made .cues)) (textsIn s) (reading s .made .titles) ≡ true
+read-right s = read-right-for s (namesIn (reading s .made .cues)) (read-rule s)

@@ -50,7 +50,7 @@ module _ {A : Type 0} (z : A) (count : ℕ) (list : List A) (h : length list ≡
 
 -- ---- cues
 module _ (c : Cues) (h : length (c .list) ≡ 64) where
-  kept-names : namesIn (cuesKept c) ≡ namesIn c
+  pub kept-names : namesIn (cuesKept c) ≡ namesIn c
   unfolding namesIn cuesKept
   kept-names = kept-values noCue (c .count) (c .list) h nameOf
 

@@ -7,9 +7,9 @@ use Prim.Native.Nat.{ℕ, zero, suc, _+_, _-_, _%_, _≤_, _<_, min}
 use native.Mathlib.Omega.{arith}
 use lib.Dec.{T, ltb, leb, lit<}
 use lib.Pow.{areBytes}
-use lib.ListN.{length, take, drop, getD, replicate, length-append, length-replicate, length-drop, length-take, List·getD-append}
+use lib.ListN.{length, take, drop, getD, replicate, length-append, length-replicate, length-drop, length-take, drop-of-length-le}
 use lib.Seq.{take-at, length-take-le, getD-take}
-use borrow.Author.Tests.{lt-ltb, le-leb, leb-true, ltb-true}
+use borrow.Author.Tests.{lt-ltb, le-leb, leb-true, leb-false, ltb-true}
 use Rattle.lists.specs.Among.{indexIn, has, distinct}
 use Rattle.lists.specs.Every.{every}
 use Rattle.lists.proofs.Laws.{and-both, every-all}
@@ -31,7 +31,7 @@ use Rattle.titles.specs.Titles.{Entry, noEntry, entryIn, firstEntries, e
 use Rattle.titles.specs.Lists.{frontKind, frontEntry, frontRest, withEntry, entriesBy, entriesIn, frontFits, tilesBy, tiles, listForm, listValid, titlesOf}
 use Rattle.titles.specs.Writing.{codeOf, pieceOf, listBytes, inRow, titlesRight, titlesKept, TitlesFit, Short}
 use Rattle.titles.proofs.Entries.{entries-long, entry-at}
-use Rattle.titles.proofs.Walking.{title-size, fits-all, within}
+use Rattle.titles.proofs.Walking.{title-size, fits-all, within, entries-none}
 use Rattle.titles.proofs.Lists.{entry-kept, Kept, rule-kept}
 use Rattle.titles.proofs.Texts.{NoneEmpty, placed-long, placed-row, row-placed, ends-placed, texts-back}
 use Rattle.titles.proofs.Back.{EntryFits, AllFit, entries-back, list-written}
@@ -104,6 +104,15 @@ pub none-valid : (lost : Bool) (names : List ℕ) → listValid lost [] names �
 unfolding listValid listForm tiles tilesBy entriesRule eachRule every namesBy distinct
 none-valid lost names = simp none-in
 
+-- a table without titles is read back of no list
+pub no-entries : (s : List ℕ) (t : Titles) → t .count < 1 → entriesOf s t ≡ []
+unfolding firstEntries
+no-entries s t h = let e : t .count ≡ 0 = omega arith in ap (λ (n : ℕ). map (entryIn s) (take n (t .list))) e
+
+pub none-kept : (t : Titles) → t .count < 1 → titlesKept t ≡ noTitles
+unfolding titlesKept tableOf
+none-kept t h = let e : t .count ≡ 0 = omega arith in ap (λ (n : ℕ). tableOf (take n (t .list))) e
+
 -- ---- a table that is read is as it would be read back
 pub titles-kept : (l : List ℕ) → titlesKept (titlesOf l) ≡ titlesOf l
 unfolding titlesKept tableOf
@@ -161,7 +170,7 @@ module _ (lost : Bool) (l names : List ℕ) (e : listValid lost l names ≡ true
   pub valid-there : (rest : List ℕ) → entriesOf (textsOf (entriesIn l) ++ rest) (titlesOf l) ≡ entriesIn l
   valid-there rest = texts-back (entriesIn l) rest valid-some
 
-  valid-whole : entriesOf (textsOf (entriesIn l)) (titlesOf l) ≡ entriesIn l
+  pub valid-whole : entriesOf (textsOf (entriesIn l)) (titlesOf l) ≡ entriesIn l
   valid-whole = ap (λ (s : List ℕ). entriesOf s (titlesOf l)) (sym (append-nil (textsOf (entriesIn l)))) ∙ valid-there []
 
   -- its titles may be written with its texts, whatever the cues, where they keep the rule
@@ -274,13 +283,30 @@ unfolding entriesBy bodyBytes
 chunks-shorter lost zero l t = omega arith
 chunks-shorter lost (suc n) l t = shorter lost n l t (chunks-shorter lost n (frontRest l))
 
-pub not-longer : (lost : Bool) (l : List ℕ) → tiles lost l ≡ true → 4 ≤ length l → length (listBytes (entriesIn l)) ≤ length l + length l % 2
+not-longer : (lost : Bool) (l : List ℕ) → tiles lost l ≡ true → 4 ≤ length l → length (listBytes (entriesIn l)) ≤ length l + length l % 2
 unfolding tiles entriesIn listBytes
 not-longer lost l t h =
     let body : List ℕ = bodyBytes (map pieceOf (entriesBy (length l) (drop 4 l))) in
     let m : (length l - 4) % 2 ≡ length l % 2 = omega arith in
     omega (arith, length-append (codeBytes code.Titles) body, length-code code.Titles, chunks-shorter lost (length l) (drop 4 l) t, length-drop 4 l,
       ap (λ (k : ℕ). k % 2) (length-drop 4 l))
+
+-- a list with a title has more than its four letters
+some-long : (l : List ℕ) → 1 ≤ length (entriesIn l) → 4 ≤ length l
+unfolding entriesIn
+some-long l h = by (leb 4 (length l)) refl
+  where
+    by : (b : Bool) → leb 4 (length l) ≡ b → 4 ≤ length l
+    by true e = leb-true 4 (length l) e
+    by false e =
+        let n : drop 4 l ≡ [] = drop-of-length-le l {i = 4} (omega (arith, leb-false 4 (length l) e)) in
+        absurd (omega (arith, ap length (ap (entriesBy (length l)) n ∙ entries-none (length l))))
+
+pub valid-shorter : (lost : Bool) (l names : List ℕ) → listValid lost l names ≡ true → 1 ≤ titlesOf l .count
+    → length (listBytes (entriesIn l)) ≤ length l + length l % 2
+unfolding tableOf
+valid-shorter lost l names e h =
+    not-longer lost l (form-both lost l names e .0) (some-long l (omega (arith, placed-long 0 (entriesIn l))))
 
 -- ---- a list that is written of bytes is bytes
 titles-bytes : (s : List ℕ) → T (areBytes s) → (ts : List Title) → T (areBytes (bodyBytes (map pieceOf (map (entryIn s) ts))))

@@ -16,8 +16,11 @@ use Rattle.formats.proofs.Lengths.{fact-long}
 use Rattle.tables.specs.declared.Cues.{Cues}
 use Rattle.tables.specs.declared.Playlist.{Playlist}
 use Rattle.tables.specs.Bytes.{cuesBytes, playsBytes}
+use Rattle.titles.specs.declared.Titles.{Titles}
+use Rattle.titles.specs.Titles.{entriesOf}
+use Rattle.titles.specs.Writing.{listBytes}
 use Rattle.rules.specs.declared.Record.{Record}
-use Rattle.writer.specs.File.{factChunk, cuesChunk, playsChunk, noTitles, partsOf, fileOf}
+use Rattle.writer.specs.File.{factChunk, cuesChunk, playsChunk, titlesChunk, partsOf, fileOf}
 
 -- ---- a chunk that is written or left out
 module _ (p : Part) where
@@ -53,24 +56,30 @@ module _ (p : Playlist) where
   pub plays-size : {n : ℕ} → 1 ≤ p .count → n ≡ length (playsBytes p) → n % 2 ≡ 0 → 8 + n ≡ extentIf (playsChunk p)
   plays-size h = written (playsChunk p) (le-leb 1 (p .count) h)
 
-pub ruleset sizes = (fact-size, fact-none, cues-none, cues-size, plays-none, plays-size)
+module _ (b : List ℕ) (t : Titles) where
+  pub titles-none : t .count < 1 → 0 ≡ extentIf (titlesChunk b t)
+  titles-none h = left-out (titlesChunk b t) (lt-leb 1 (t .count) h)
+
+  pub titles-size : {n : ℕ} → 1 ≤ t .count → n ≡ length (listBytes (entriesOf b t)) → n % 2 ≡ 0 → 8 + n ≡ extentIf (titlesChunk b t)
+  titles-size h = written (titlesChunk b t) (le-leb 1 (t .count) h)
+
+pub ruleset sizes = (titles-none, titles-size, fact-size, fact-none, cues-none, cues-size, plays-none, plays-size)
 
 -- ---- the sound in two parts
 pub sound-size : (x y : List ℕ) → length x + length y ≡ length (x ++ y)
 sound-size x y = sym (length-append x y)
 
 -- ---- the file
-module _ (m : Record) (w : List ℕ) {fmt fact cue plst : ℕ}
-    (a : fmt ≡ length (formatBytes (m .format))) (b : fmt % 2 ≡ 0) (c : fact ≡ cond (needsFact (m .format)) 12 0)
-    (d : cue ≡ extentIf (cuesChunk (m .cues))) (e : plst ≡ extentIf (playsChunk (m .playlist))) where
-  pub file-size : 12 + 8 + fmt + fact + cue + plst + 8 + length w + length w % 2 ≡ length (fileOf m w)
+module _ (m : Record) (b w : List ℕ) {fmt fact cue plst adtl : ℕ}
+    (a : fmt ≡ length (formatBytes (m .format))) (e : fmt % 2 ≡ 0) (c : fact ≡ cond (needsFact (m .format)) 12 0)
+    (d : cue ≡ extentIf (cuesChunk (m .cues))) (f : plst ≡ extentIf (playsChunk (m .playlist))) (g : adtl ≡ extentIf (titlesChunk b (m .titles))) where
+  pub file-size : 12 + 8 + fmt + fact + cue + plst + adtl + 8 + length w + length w % 2 ≡ length (fileOf m b w)
   unfolding fileOf partsOf
   file-size =
-      let l = length-laid (partsOf m w) in
-      let f = fact-extent (m .format) (m .frames) in
-      let t = left-out noTitles refl in
+      let l = length-laid (partsOf m b w) in
+      let h = fact-extent (m .format) (m .frames) in
       omega arith
 
   -- the same where n is the length of the sound
-  pub file-counted : {n : ℕ} → n ≡ length w → 12 + 8 + fmt + fact + cue + plst + 8 + n + n % 2 ≡ length (fileOf m w)
+  pub file-counted : {n : ℕ} → n ≡ length w → 12 + 8 + fmt + fact + cue + plst + adtl + 8 + n + n % 2 ≡ length (fileOf m b w)
   file-counted i = rw i file-size
