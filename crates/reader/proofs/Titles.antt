@@ -5,7 +5,8 @@ use mathlib.Core.Bool.{Bool, true, false, not, cond, _&&_}
 use mathlib.Core.List.{List, [], _∷_, _++_}
 use Prim.Native.Nat.{ℕ, _≤_, _<_}
 use native.Mathlib.Omega.{arith}
-use lib.Dec.{leb}
+use lib.Dec.{T, leb}
+use lib.Pow.{areBytes}
 use lib.ListN.{length, length-take, length-drop}
 use borrow.Author.Tests.{not-true, not-false, lt-leb, le-leb}
 use Rattle.lists.specs.Among.{distinct}
@@ -26,7 +27,7 @@ use Rattle.riff.specs.declared.Walked.the-variants.{Whole, Stopped}
 use Rattle.riff.specs.Chunks.{isThere, padLost}
 use Rattle.riff.specs.Walk.{partOf, directoryOf}
 use Rattle.riff.proofs.Walking.{whole-limit}
-use Rattle.riff.proofs.Parting.{part-within}
+use Rattle.riff.proofs.Parting.{part-within, part-bytes}
 use Rattle.tables.specs.Cues.{namesIn}
 use Rattle.tables.specs.Bytes.{entryBytes}
 use Rattle.titles.specs.declared.Titles.{Titles}
@@ -34,7 +35,7 @@ use Rattle.titles.specs.declared.ListRead.{ListRead}
 use Rattle.titles.specs.Titles.{Entry, firstEntries, entriesOf, eachRule, namesBy, entriesRule, textsOf, textsEnd, noTitles}
 use Rattle.titles.specs.Lists.{entriesIn, listForm, listValid, titlesOf, listRead}
 use Rattle.titles.specs.Writing.{inRow, titlesRight}
-use Rattle.titles.proofs.Round.{none-in, none-texts, none-titles, none-valid, valid-form, valid-rule, valid-count, valid-ends, valid-there, valid-whole, valid-right}
+use Rattle.titles.proofs.Round.{none-in, none-texts, none-titles, none-valid, valid-form, valid-rule, valid-count, valid-ends, valid-there, valid-whole, valid-right, titles-many, texts-bytes as list-texts-bytes}
 use Rattle.rules.specs.declared.Record.{Record}
 use Rattle.rules.specs.declared.Reading.{Reading}
 use Rattle.rules.specs.Rules.{ChunkBytes, recordOf, withTitles, chunkChecks, verdictOf, turnedAway, readingBy, judged}
@@ -296,3 +297,15 @@ read-right-for s cues =
 
 pub read-right : (s : List ℕ) → titlesRight (namesIn (reading s .made .cues)) (textsIn s) (reading s .made .titles) ≡ true
 read-right s = read-right-for s (namesIn (reading s .made .cues)) (read-rule s)
+
+-- ---- what every file's record has of titles: those of its list, as many as there are, whose texts are bytes where the file is
+pub titles-made : (s : List ℕ) → reading s .made .titles ≡ titlesOf (partOf s (titlesSpot s) [])
+titles-made s = by-file s (λ r a t. r .made .titles ≡ titlesOf (partOf s t [])) (λ r. sym none-titles) (λ d w v. refl)
+
+pub titles-count : (s : List ℕ) → reading s .made .titles .count ≡ length (titlesIn s)
+unfolding titlesIn
+titles-count s = ap (λ (t : Titles). t .count) (titles-made s) ∙ titles-many (partOf s (titlesSpot s) [])
+
+pub texts-bytes : (s : List ℕ) → T (areBytes s) → T (areBytes (textsIn s))
+unfolding titlesIn
+texts-bytes s b = list-texts-bytes (partOf s (titlesSpot s) []) (part-bytes s (titlesSpot s) [] b tt)

@@ -19,7 +19,7 @@ use Rattle.units.specs.Checks.{Check, decided, andThen, AllMet}
 use Rattle.units.proofs.Checks.{all-met}
 use Rattle.rules.specs.declared.Record.{Record}
 use Rattle.rules.specs.declared.Reading.{Reading}
-use Rattle.reader.specs.Content.{reading, soundIn, fileFormat, fileFrames}
+use Rattle.reader.specs.Content.{reading, soundIn, textsIn, fileFormat, fileFrames}
 use Rattle.writer.specs.declared.Written.{Written}
 use Rattle.writer.specs.declared.Written.the-variants.{Bytes, Refused}
 use Rattle.writer.specs.File.{writing}
@@ -95,7 +95,7 @@ module _ (s : List ℕ) (x : Sent) where
 
   -- ---- with its room
   abbrev pub writes : Written
-  writes = writing (newRecord s (x .file) (x .number)) (newSound s (x .file)) (x .room)
+  writes = writing (newRecord s (x .file) (x .number)) (textsIn s) (newSound s (x .file)) (x .room)
 
   pub added-says : (n : BytePlace) → answerTo s x ≡ Bytes n → Taking s x × (writes ≡ Bytes n)
   unfolding adding

@@ -14,10 +14,11 @@ use Rattle.units.specs.declared.Donation.{Donation}
 use Rattle.units.specs.declared.Verdict.the-variants.{Accepted}
 use Rattle.formats.specs.declared.Format.{Format}
 use Rattle.rules.specs.declared.Record.{Record}
-use Rattle.reader.specs.Content.{holds, contentOf, reading, soundIn, fileFormat, fileFrames}
+use Rattle.reader.specs.Content.{holds, contentOf, reading, soundIn, textsIn, fileFormat, fileFrames}
+use Rattle.writer.specs.File.{rightTitles}
 use Rattle.writer.specs.Demands.{Back}
 use Rattle.writer.proofs.Settling.{settled-says}
-use Rattle.writer.proofs.Demands.{bytes-say, content-written, back}
+use Rattle.writer.proofs.Demands.{bytes-say, content-written, titles-written, back}
 use Rattle.writer.proofs.Bytes.{file-bytes}
 use Rattle.side.specs.Side.{Song, isSideFile, songsIn, isListed, listedSound}
 use Rattle.side.specs.Adding.{suits, withSong, newRecord, newSound, newFile}
@@ -26,7 +27,7 @@ use Rattle.side.proofs.Growing.{songs-count}
 use Rattle.side.proofs.Answers.{added-says, empty-added, listed-added}
 use Rattle.side.proofs.Sides.{held-made, held-sound, held-side, held-songs, standing, song-long}
 use Rattle.side.proofs.Listed.{listed-behind, sound-behind, sound-some}
-use Rattle.side.proofs.Joining.{new-fits, new-kept, new-bytes, new-side, new-songs, new-long}
+use Rattle.side.proofs.Joining.{new-fits, new-kept, new-bytes, new-texts, new-side, new-songs, new-titles, new-long}
 
 -- ---- a song that is added
 pub grows : Grows
@@ -38,15 +39,16 @@ grows s x n h =
     let w : List ℕ = newSound s (x .file) in
     let new : List ℕ = fileWith s x in
     let fits = new-fits k (h .bytes) (h .sent .number) (h .sent .limit) in
-    let c : contentOf new ≡ holds m w = content-written m w (x .room) n fits (p .1) ∙ ap (λ (z : Record). holds z w) (new-kept k) in
+    let c : contentOf new ≡ holds m w = content-written m (textsIn s) w (x .room) n fits (p .1) ∙ ap (λ (z : Record). holds z w) (new-kept k) in
     record {
-      long = back m w (x .room) n fits (p .1) .long;
-      bytes = file-bytes m w (new-bytes k (h .bytes) (h .sent .file));
+      long = back m (textsIn s) w (x .room) n fits (p .1) .long;
+      bytes = file-bytes m (textsIn s) w (new-texts k (h .bytes)) (new-bytes k (h .bytes) (h .sent .file));
       side = held-side new c ∙ new-side k;
       format = ap (λ (z : Record). z .format) (held-made new c);
       frames = ap (λ (z : Record). z .frames .0) (held-made new c);
       songs = held-songs new c ∙ new-songs k;
       sound = held-sound new c;
+      titles = titles-written m (textsIn s) w (x .room) n fits (p .1) ∙ new-titles k;
     }
 
 pub songs-grown : (s : List ℕ) (x : Sent) {n : BytePlace} → Grown s x n → length (songsIn (fileWith s x)) ≡ length (songsIn s) + 1
@@ -66,7 +68,7 @@ stays-within s x n h =
       songs = omega (arith, k .few, songs-grown s x g);
       frames = omega (arith, k .within);
       size = new-long k;
-      most = settled-says m w (x .room) (bytes-say m w (x .room) n (p .1)) .limit;
+      most = settled-says (rightTitles m (textsIn s)) m (textsIn s) w (x .room) (bytes-say (rightTitles m (textsIn s)) m (textsIn s) w (x .room) n (p .1)) .limit;
     }
 
 -- ---- a listed number

@@ -25,13 +25,16 @@ use Rattle.tables.specs.Cues.{cuesIn, cuesOf, namesIn, placesIn, cuesRule}
 use Rattle.tables.specs.Plays.{playsIn, playsOf, allPlayable, playsRule}
 use Rattle.tables.specs.Bytes.{zeroPast, cuesKept, playsKept}
 use Rattle.tables.proofs.Again.{cues-fit, plays-fit}
+use Rattle.titles.specs.Titles.{firstEntries, eachRule, namesBy, entriesRule, tableOf}
+use Rattle.titles.specs.Writing.{inRow, titlesRight, titlesKept}
 use Rattle.rules.specs.declared.Record.{Record}
+use Rattle.rules.proofs.Again.{none-fit}
 use Rattle.rules.specs.Rules.{Writable}
 use Rattle.rules.specs.Written.{recordKept, RecordFits}
 use Rattle.reader.specs.Content.{holds, zeros, contentOf}
-use Rattle.writer.specs.File.{sizeOf, fileOf, writing, writtenNumber}
+use Rattle.writer.specs.File.{sizeOf, fileOf, rightTitles, writing, writtenNumber}
 use Rattle.writer.specs.Demands as below
-use Rattle.writer.proofs.Sizes.{cues-none, plays-none, file-size}
+use Rattle.writer.proofs.Sizes.{cues-none, plays-none, titles-none, file-size}
 use Rattle.writer.proofs.Settling.{settled-says}
 use Rattle.writer.proofs.Demands.{bytes-say, content-written}
 use Rattle.writer.proofs.Demands as below-proofs
@@ -44,7 +47,7 @@ use Rattle.side.proofs.Rows.{not-leb}
 
 module _ (channels rate : ℕ) where
   empty-kept : recordKept (emptySide channels rate) ≡ emptySide channels rate
-  unfolding recordKept cuesKept playsKept zeroPast held emptySide plainFormat
+  unfolding recordKept cuesKept playsKept titlesKept tableOf zeroPast held emptySide plainFormat
   empty-kept = refl
 
   empty-fits : {n : BytePlace} → Writable (emptySide channels rate) n → RecordFits (emptySide channels rate)
@@ -55,20 +58,21 @@ module _ (channels rate : ℕ) where
         frames = omega arith;
         cues = cues-fit zeros tt;
         plays = plays-fit zeros tt;
+        titles = none-fit;
       }
 
 pub empty-made : EmptyMade
 unfolding EmptyMade emptySide plainFormat isSide sixteenBit cueList playList tiled songsHeld songsOf
 empty-made channels rate room n e =
     let m : Record = emptySide channels rate in
-    let fits = empty-fits channels rate (settled-says m [] room (bytes-say m [] room n e) .rules) in
-    let c : contentOf (fileOf m []) ≡ holds m [] =
-    content-written m [] room n fits e ∙ ap (λ (x : Record). holds x []) (empty-kept channels rate) in
+    let fits = empty-fits channels rate (settled-says (rightTitles m []) m [] [] room (bytes-say (rightTitles m []) m [] [] room n e) .rules) in
+    let c : contentOf (fileOf m [] []) ≡ holds m [] =
+    content-written m [] [] room n fits e ∙ ap (λ (x : Record). holds x []) (empty-kept channels rate) in
     record {
-      bytes = file-bytes m [] tt;
-      side = held-side (fileOf m []) c;
-      format = ap (λ (x : Record). x .format) (held-made (fileOf m []) c);
-      songs = held-songs (fileOf m []) c;
+      bytes = file-bytes m [] [] tt tt;
+      side = held-side (fileOf m [] []) c;
+      format = ap (λ (x : Record). x .format) (held-made (fileOf m [] []) c);
+      songs = held-songs (fileOf m [] []) c;
     }
 
 -- ---- its number, by the rules that it keeps and its length
@@ -95,24 +99,28 @@ module _ (channels rate : ℕ) where
         plays = refl;
       }
 
-  empty-long : length (fileOf m []) ≡ 44
+  empty-right : rightTitles m [] ≡ true
+  unfolding titlesRight inRow firstEntries entriesRule eachRule every namesBy distinct emptySide
+  empty-right = refl
+
+  empty-long : length (fileOf m [] []) ≡ 44
   unfolding emptySide plainFormat
   empty-long =
       let f : _≡_ {A = ℕ} 0 (cond (needsFact (m .format)) 12 0) = simp (fact-unneeded (m .format) refl) in
-      sym (file-size m [] (format-pcm-long (m .format) refl) refl f (cues-none (m .cues) (omega arith)) (plays-none (m .playlist) (omega arith)))
+      sym (file-size m [] [] (format-pcm-long (m .format) refl) refl f (cues-none (m .cues) (omega arith)) (plays-none (m .playlist) (omega arith)) (titles-none [] (m .titles) (omega arith)))
 
 pub empty-numbered : EmptyNumbered
 unfolding EmptyNumbered below.WriteNumbered
 empty-numbered channels rate room = by (formatRule (emptySide channels rate .format)) refl
   where
     by : (b : Bool) → formatRule (emptySide channels rate .format) ≡ b
-        → writtenNumber (writing (emptySide channels rate) [] room)
+        → writtenNumber (writing (emptySide channels rate) [] [] room)
         ≡ cond (leb 1 channels && leb channels 2 && leb 1 rate && leb rate 192000) (cond (ltb room 44) 14 0) 9
     by true e =
         let k = empty-rules channels rate e in
         let r = sym (empty-rule channels rate) ∙ e in
-        below-proofs.numbered (emptySide channels rate) [] room
-        ∙ simp (k .format, k .whole, k .count, k .cues, k .plays, empty-long channels rate, not-leb, r)
+        below-proofs.numbered (emptySide channels rate) [] [] room
+        ∙ simp (k .format, k .whole, k .count, k .cues, k .plays, empty-right channels rate, empty-long channels rate, not-leb, r)
     by false e =
         let r = sym (empty-rule channels rate) ∙ e in
-        below-proofs.numbered (emptySide channels rate) [] room ∙ simp (e, r)
+        below-proofs.numbered (emptySide channels rate) [] [] room ∙ simp (e, r)

@@ -16,7 +16,8 @@ use Rattle.tables.specs.More.{cuesWith, playsWith}
 use Rattle.rules.specs.declared.Record.{Record}
 use Rattle.rules.specs.Rules.{Writable}
 use Rattle.rules.specs.Written.{recordKept, RecordFits}
-use Rattle.writer.specs.File.{sizeOf, fileOf}
+use Rattle.riff.specs.Laying.{extentIf}
+use Rattle.writer.specs.File.{sizeOf, titlesChunk, fileOf}
 use Rattle.side.specs.Side.{Song, cueList, playList, tiled, isSide, songsOf, songsHeld, isListed}
 use Rattle.side.specs.Adding.{withSong}
 use Rattle.tables.proofs.Behind.{first-more, names-first, cues-kept-more, plays-kept-more, cues-fit-more, plays-fit-more}
@@ -107,7 +108,8 @@ module _ {m : Record} {w : List ℕ} (k : Standing m w) where
     grown-kept e =
         let c = cues-kept-more (m .cues) cue (k .cueRoom) few (ap (λ (r : Record). r .cues) e) in
         let p = plays-kept-more (m .playlist) play (k .playRoom) few-plays (ap (λ (r : Record). r .playlist) e) in
-        λ i. record { format = m .format; frames = more; cues = c i; playlist = p i }
+        let t = ap (λ (r : Record). r .titles) e in
+        λ i. record { format = m .format; frames = more; cues = c i; playlist = p i; titles = t i }
 
     pub grown-fits : RecordFits m → number .0 < 4294967296 → m .frames .0 + frames .0 < 4294967296 → RecordFits grown
     unfolding withSong
@@ -117,6 +119,7 @@ module _ {m : Record} {w : List ℕ} (k : Standing m w) where
           frames = b;
           cues = cues-fit-more (m .cues) cue (h .cues) few a (h .frames) (h .frames);
           plays = plays-fit-more (m .playlist) play (h .plays) few-plays a (omega arith) (omega arith);
+          titles = h .titles;
         }
 
     pub grown-rules : isListed number (songsHeld m w) ≡ false → Writable grown (sizeOf (w ++ v))
@@ -136,14 +139,16 @@ module _ {m : Record} {w : List ℕ} (k : Standing m w) where
               (m .playlist) play (k .playRoom) few-plays (k .rules .plays) refl some (omega arith) (omega arith);
         }
 
-    -- how long its file is: 44 bytes for the heads and the format, two tables, and the sound
-    pub grown-long : length (fileOf grown (w ++ v)) ≡ 68 + 36 * (m .cues .count + 1) + m .format .align * (m .frames .0 + frames .0)
+    -- how long its file is: 44 bytes for the heads and the format, two tables, the titles, and the sound
+    pub grown-long : (b : List ℕ)
+        → length (fileOf grown b (w ++ v))
+        ≡ 68 + 36 * (m .cues .count + 1) + extentIf (titlesChunk b (m .titles)) + m .format .align * (m .frames .0 + frames .0)
     unfolding withSong cuesWith playsWith
-    grown-long =
+    grown-long b =
         let n : ℕ = m .cues .count + 1 in
         let t = side-tag m (k .side) in
         let even = long-even (m .format) (sizeOf (w ++ v)) more t (k .rules .format) more-long (side-bits m (k .side)) in
-        file-long grown (w ++ v) n t refl (omega (arith, counts-same)) (omega arith) (omega arith)
+        file-long grown b (w ++ v) n t refl (omega (arith, counts-same)) (omega arith) (omega arith)
         (length-set (m .cues .list) (m .cues .count) cue ∙ k .cueRoom)
         (length-set (m .playlist .list) (m .playlist .count) play ∙ k .playRoom) even
-        ∙ ap (λ (l : ℕ). 68 + 36 * n + l) more-long
+        ∙ ap (λ (l : ℕ). 68 + 36 * n + extentIf (titlesChunk b (m .titles)) + l) more-long

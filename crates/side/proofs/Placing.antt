@@ -34,6 +34,8 @@ use Rattle.tables.proofs.Putting.{array-long}
 use Rattle.tables.proofs.Behind.{names-first}
 use Rattle.rules.specs.declared.Record.{Record}
 use Rattle.rules.specs.declared.Reading.{Reading}
+use Rattle.rules.specs.Written.{RecordFits}
+use Rattle.rules.proofs.Typed.{record-typed}
 use Rattle.side.specs.Side.{cueList, playList, isSide, sideRead, bytesOfFrames, framesAt, soundAt, songsOf, songsHeld, isListed, listedSound}
 use Rattle.side.specs.Adding.{onceMore, hasPlace, placeChecks, addChecks, addVerdict, withSong}
 use Rattle.side.proofs.Songs.{songs-named, side-tiled, lists-long, cues-many, counts-agree, side-says}
@@ -153,7 +155,11 @@ module _ (old v : List ℕ) {x : List ℕ} (o : x ≡ old) {b : Bool} (e : b ≡
 
 pub ruleset parting = (product-fits, frames-part, part-place)
 
-pub ruleset placing = (array-long, place-listed, place-none, place-free, once-same, once-other)
+-- a record of the code has room for 64 cues
+pub cues-roomy : {m : Record} → RecordFits m → length (m .cues .list) ≡ 64
+cues-roomy f = f .cues .room
+
+pub ruleset placing = (array-long, record-typed, cues-roomy, place-listed, place-none, place-free, once-same, once-other)
 
 -- ---- the song file's refusals, and then the checks in their order
 module _ (side : Reading) (w : List ℕ) (song : Reading) (v : List ℕ) (number : Donation) (limit : Frames) where
@@ -182,7 +188,7 @@ pub ruleset settling = (song-refused, song-taken, check-fails, check-met, no-fra
 pub song-made : (m : Record) (number : Donation) (frames : Frames) {c : Cues} {p : Playlist}
     → c ≡ cuesWith (m .cues) (record { name = number; position = m .frames; place = m .frames })
     → p ≡ playsWith (m .playlist) (record { name = number; length = frames; times = 1 })
-    → record { format = m .format; frames = record { 0 = m .frames .0 + frames .0 }; cues = c; playlist = p } ≡ withSong m number frames
+    → record { format = m .format; frames = record { 0 = m .frames .0 + frames .0 }; cues = c; playlist = p; titles = m .titles } ≡ withSong m number frames
 unfolding withSong
 song-made m number frames e f = simp (e, f)
 

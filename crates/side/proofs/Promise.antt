@@ -11,10 +11,10 @@ use Rattle.units.specs.declared.Donation.{Donation}
 use Rattle.units.specs.declared.Frames.{Frames}
 use Rattle.units.specs.declared.Verdict.{Verdict}
 use Rattle.units.specs.declared.Verdict.the-variants as verdict
-use Rattle.reader.specs.Content.{reading, soundIn}
+use Rattle.reader.specs.Content.{reading, soundIn, textsIn}
 use Rattle.writer.specs.declared.Written.{Written}
 use Rattle.writer.specs.declared.Written.the-variants.{Bytes}
-use Rattle.writer.specs.File.{fileOf, writing, writtenVerdict, writtenNumber}
+use Rattle.writer.specs.File.{fileOf, rightTitles, writing, writtenVerdict, writtenNumber}
 use Rattle.writer.proofs.Settling.{told-long}
 use Rattle.side.specs.Adding.{addVerdict, newRecord, newSound, newFile, addedBy, adding, emptySide}
 use Rattle.side.specs.Demands.{EmptyNumbered, AddNumbered}
@@ -36,7 +36,7 @@ add-kept s t number limit d f g =
       refusal = ap writtenNumber f ∙ numbered s t number limit (length d);
       size = λ n h.
           ap (λ (x : BytePlace). x .0)
-          (told-long (newRecord s t number) (newSound s t) (length d) n
+          (told-long (rightTitles (newRecord s t number) (textsIn s)) (newRecord s t number) (textsIn s) (newSound s t) (length d) n
           (passed (addVerdict (reading s) (soundIn s) (reading t) (soundIn t) number limit) (sym f ∙ h)));
       buffer = g;
     }
@@ -46,18 +46,18 @@ unfolding OneAdding
 one-adding s t number limit d r r′ e e′ p q =
     one-each writtenVerdict (newFile s t number) d (p .answer) (q .answer) (p .buffer) (q .buffer)
 
-pub empty-kept : (channels rate : ℕ) (d : List ℕ) {r : Written} {e : List ℕ} → r ≡ writing (emptySide channels rate) [] (length d)
-    → e ≡ holding (writtenVerdict r) (fileOf (emptySide channels rate) []) d → EmptyPromise channels rate d r e
+pub empty-kept : (channels rate : ℕ) (d : List ℕ) {r : Written} {e : List ℕ} → r ≡ writing (emptySide channels rate) [] [] (length d)
+    → e ≡ holding (writtenVerdict r) (fileOf (emptySide channels rate) [] []) d → EmptyPromise channels rate d r e
 unfolding EmptyNumbered
 empty-kept channels rate d f g =
     record {
       answer = f;
       number = ap writtenNumber f ∙ empty-numbered channels rate (length d);
-      size = λ n h. ap (λ (x : BytePlace). x .0) (told-long (emptySide channels rate) [] (length d) n (sym f ∙ h));
+      size = λ n h. ap (λ (x : BytePlace). x .0) (told-long (rightTitles (emptySide channels rate) []) (emptySide channels rate) [] [] (length d) n (sym f ∙ h));
       buffer = g;
     }
 
 pub one-empty : OneEmpty
 unfolding OneEmpty
 one-empty channels rate d r r′ e e′ p q =
-    one-each writtenVerdict (fileOf (emptySide channels rate) []) d (p .answer) (q .answer) (p .buffer) (q .buffer)
+    one-each writtenVerdict (fileOf (emptySide channels rate) [] []) d (p .answer) (q .answer) (p .buffer) (q .buffer)

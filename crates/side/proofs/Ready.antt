@@ -14,14 +14,14 @@ use Rattle.writer.specs.File.{sizeOf}
 use Rattle.writer.proofs.Demands.{accepted}
 use Rattle.side.specs.Side.{Song, isSideFile, songsIn, isListed}
 use Rattle.side.specs.Adding.{newRecord, newSound, newFile}
-use Rattle.side.specs.Demands.{Sent, answerTo, fileWith, songFrom, Grown, Grows, AllSuitable, isSent, OnceEach, AllFit}
+use Rattle.side.specs.Demands.{Sent, answerTo, fileWith, songFrom, titlesSize, Grown, Grows, AllSuitable, isSent, OnceEach, AllFit}
 use Rattle.side.proofs.Growing.{songs-count}
 use Rattle.side.proofs.Answers.{Taking, taking-added}
 use Rattle.side.proofs.Sides.{standing}
 use Rattle.side.proofs.Listed.{neither, listed-behind}
 use Rattle.side.proofs.Demands.{grows, songs-grown}
-use Rattle.side.proofs.Joining.{new-rules, new-long}
-use Rattle.reader.specs.Content.{fileFormat, fileFrames}
+use Rattle.side.proofs.Joining.{new-rules, new-right, new-long}
+use Rattle.reader.specs.Content.{titlesIn, textsIn, fileFormat, fileFrames}
 
 -- ---- songs that a side s can take, one after the other: the numbers are new to it, and all is within the limits
 unfoldable pub NoneListed : List Song → List Sent → Type 0
@@ -51,6 +51,7 @@ pub record Ready (s : List ℕ) (xs : List Sent) : Type 0 where
   pub once : OnceEach xs
   pub fresh : NoneListed (songsIn s) xs
   pub placed : AllFit (fileFormat s) (length (songsIn s)) (fileFrames s) xs
+  pub untitled : titlesIn s ≡ []
 
 -- the first is taken
 module _ (s : List ℕ) (x : Sent) (xs : List Sent) (k : Ready s (x ∷ xs)) where
@@ -77,9 +78,10 @@ module _ (s : List ℕ) (x : Sent) (xs : List Sent) (k : Ready s (x ∷ xs)) whe
   first-written =
       let h = first-taken in
       let l = new-long h in
+      let u = ap titlesSize (k .untitled) in
       let p = k .placed .0 in
       taking-added s x h
-      ∙ accepted (newRecord s (x .file) (x .number)) (newSound s (x .file)) (x .room) (new-rules h)
+      ∙ accepted (newRecord s (x .file) (x .number)) (textsIn s) (newSound s (x .file)) (x .room) (new-rules h) (new-right h)
       (omega (arith, p .size)) (omega (arith, p .lent))
 
   pub first-grown : Grown s x (sizeOf new)
@@ -100,4 +102,5 @@ module _ (s : List ℕ) (x : Sent) (xs : List Sent) (k : Ready s (x ∷ xs)) whe
             subst (λ (ys : List Song). NoneListed ys xs) (sym (g .songs))
             (none-behind (songsIn s) (songFrom (fileFrames s) x) xs (k .fresh .1) (k .once .0));
         placed = subst (λ (a : Type 0). a) (sym (λ i. AllFit (g .format i) (songs-grown s x g i) (g .frames i) xs)) (k .placed .1);
+        untitled = g .titles ∙ k .untitled;
       }

@@ -18,7 +18,7 @@ use Rattle.units.specs.declared.Verdict.the-variants as verdict
 use Rattle.units.specs.Refusals.{fileLimit, verdictNumber}
 use Rattle.units.specs.Checks.{Check, check, decided, andThen, numberBy, numberOr, AllMet}
 use Rattle.units.proofs.Checks.{all-met, number-row, number-then, then-decided}
-use Rattle.reader.specs.Content.{reading, soundIn, fileFormat, fileFrames}
+use Rattle.reader.specs.Content.{reading, soundIn, textsIn, fileFormat, fileFrames}
 use Rattle.writer.specs.declared.Written.{Written}
 use Rattle.writer.specs.File.{writtenNumber}
 use Rattle.writer.specs.Demands as below
@@ -29,7 +29,7 @@ use Rattle.side.specs.Demands.{Sent, AddNumbered}
 use Rattle.side.proofs.Growing.{songs-count}
 use Rattle.side.proofs.Answers.{Taking, checks, taking, writes}
 use Rattle.side.proofs.Sides.{standing}
-use Rattle.side.proofs.Joining.{new-rules}
+use Rattle.side.proofs.Joining.{new-rules, new-right}
 
 -- ---- tests the other way round
 pub not-leb : (a b : ℕ) → not (leb a b) ≡ ltb b a
@@ -106,9 +106,9 @@ module _ (s t : List ℕ) (number : Donation) (limit : Frames) (room : ℕ) wher
   size-rows : Taking s sent → writtenNumber (writes s sent) ≡ numberBy sizes
   unfolding below.WriteNumbered newFile numberBy
   size-rows h =
-      let e = below-proofs.numbered (newRecord s t number) (newSound s t) room in
+      let e = below-proofs.numbered (newRecord s t number) (textsIn s) (newSound s t) room in
       let k = new-rules h in
-      e ∙ simp (k .format, k .whole, k .count, k .cues, k .plays)
+      e ∙ simp (k .format, k .whole, k .count, k .cues, k .plays, new-right h)
 
 pub numbered : AddNumbered
 unfolding AddNumbered adding addVerdict numberBy

@@ -16,11 +16,11 @@ use Rattle.side.specs.Demands.{Sent, answerTo, fileWith, songFrom, sideA
 use Rattle.side.proofs.Songs.{side-tiled}
 use Rattle.side.proofs.Growing.{Standing, counts-same, songs-count}
 use Rattle.side.proofs.Answers.{added-says}
-use Rattle.side.proofs.Sides.{standing}
+use Rattle.side.proofs.Sides.{standing, no-titles}
 use Rattle.side.proofs.Listed.{listed-before, sound-before}
 use Rattle.side.proofs.Demands.{grows, own-listed, told-listed}
 use Rattle.side.proofs.Ready.{NoneListed, none-first, Ready, first-written, first-grown, next-ready}
-use Rattle.reader.specs.Content.{fileFormat, fileFrames}
+use Rattle.reader.specs.Content.{titlesIn, fileFormat, fileFrames}
 
 -- ---- the first of a list, by its answer
 first-answered : (s : List ℕ) (x : Sent) (xs : List Sent) {a : Written} → answerTo s x ≡ a
@@ -51,7 +51,7 @@ sent-twice s x xs b y = by (answerTo s x) refl
 -- ---- whatever is sent
 pub none-lost : NoneLost
 unfolding NoneLost AllBytewise addAll Grows
-none-lost [] s b e y = record { side = e; format = refl; more = []; songs = sym (append-nil (songsIn s)) }
+none-lost [] s b e y = record { side = e; format = refl; more = []; songs = sym (append-nil (songsIn s)); titles = refl }
 none-lost (x ∷ xs) s b e y = by (answerTo s x) refl (λ t c f. none-lost xs t c f (y .1))
   where
     by : (a : Written) → answerTo s x ≡ a
@@ -66,6 +66,7 @@ none-lost (x ∷ xs) s b e y = by (answerTo s x) refl (λ t c f. none-lost xs t 
           format = k .format ∙ g .format;
           more = one ++ k .more;
           songs = k .songs ∙ ap (λ (ys : List Song). ys ++ k .more) (g .songs) ∙ append-assoc (songsIn s) one (k .more);
+          titles = k .titles ∙ g .titles;
         }
     by (Refused r) h next = next s b e
 
@@ -99,10 +100,11 @@ record Reached (s t : List ℕ) (xs : List Sent) : Type 0 where
   side : isSideFile t ≡ true
   format : fileFormat t ≡ fileFormat s
   songs : songsIn t ≡ songsIn s ++ inRow (fileFrames s) xs
+  titles : titlesIn t ≡ titlesIn s
 
 all-reached : (xs : List Sent) (s : List ℕ) → Ready s xs → Reached s (addAll s xs) xs
 unfolding addAll inRow
-all-reached [] s k = record { side = k .side; format = refl; songs = sym (append-nil (songsIn s)) }
+all-reached [] s k = record { side = k .side; format = refl; songs = sym (append-nil (songsIn s)); titles = refl }
 all-reached (x ∷ xs) s k =
     let g = first-grown s x xs k in
     let h = all-reached xs (fileWith s x) (next-ready s x xs k) in
@@ -115,6 +117,7 @@ all-reached (x ∷ xs) s k =
           h .songs
           ∙ (λ i. g .songs i ++ inRow (g .frames i) xs)
           ∙ append-assoc (songsIn s) (y ∷ []) (inRow (fileFrames s + fileFrames (x .file)) xs);
+      titles = h .titles ∙ g .titles;
     })
 
 -- ---- from an empty side on
@@ -132,6 +135,7 @@ unfolding AllAdded
 all-added s xs b e n f o p =
     let z = empty-frames (standing s e) n in
     let c : length (songsIn s) ≡ 0 = ap length n in
+    let none = no-titles s e n in
     let h = all-reached xs s (record {
       bytes = b;
       side = e;
@@ -139,5 +143,6 @@ all-added s xs b e n f o p =
       once = o;
       fresh = subst (λ (ys : List Song). NoneListed ys xs) (sym n) (none-first xs);
       placed = subst (λ (a : Type 0). a) (sym (λ i. AllFit (fileFormat s) (c i) (z i) xs)) p;
+      untitled = none;
     }) in
-    record { side = h .side; format = h .format; songs = h .songs ∙ (λ i. n i ++ inRow (z i) xs) }
+    record { side = h .side; format = h .format; songs = h .songs ∙ (λ i. n i ++ inRow (z i) xs); titles = h .titles ∙ none }

@@ -11,16 +11,17 @@ use Rattle.formats.proofs.Lengths.{format-pcm-long}
 use Rattle.tables.proofs.Entries.{held-all}
 use Rattle.tables.proofs.Lengths.{cues-long, plays-long}
 use Rattle.rules.specs.declared.Record.{Record}
-use Rattle.writer.specs.File.{fileOf}
+use Rattle.riff.specs.Laying.{extentIf}
+use Rattle.writer.specs.File.{titlesChunk, fileOf}
 use Rattle.writer.proofs.Sizes.{cues-size, plays-size, file-size}
 
-pub file-long : (m : Record) (w : List ℕ) (n : ℕ) → m .format .tag ≡ 1 → m .cues .count ≡ n → m .playlist .count ≡ n → 1 ≤ n → n ≤ 64
+pub file-long : (m : Record) (b w : List ℕ) (n : ℕ) → m .format .tag ≡ 1 → m .cues .count ≡ n → m .playlist .count ≡ n → 1 ≤ n → n ≤ 64
     → length (m .cues .list) ≡ 64 → length (m .playlist .list) ≡ 64 → length w % 2 ≡ 0
-    → length (fileOf m w) ≡ 68 + 36 * n + length w
-file-long m w n tag c p some few cueRoom playRoom even =
+    → length (fileOf m b w) ≡ 68 + 36 * n + extentIf (titlesChunk b (m .titles)) + length w
+file-long m b w n tag c p some few cueRoom playRoom even =
     let f : _≡_ {A = ℕ} 0 (cond (needsFact (m .format)) 12 0) = simp (fact-unneeded (m .format) tag) in
     let a = held-all (m .cues .count) (omega arith) in
-    let b = held-all (m .playlist .count) (omega arith) in
+    let h = held-all (m .playlist .count) (omega arith) in
     let d = cues-size (m .cues) {n = 4 + 24 * n} (omega arith) (omega (arith, cues-long (m .cues) cueRoom)) (omega arith) in
     let e = plays-size (m .playlist) {n = 4 + 12 * n} (omega arith) (omega (arith, plays-long (m .playlist) playRoom)) (omega arith) in
-    omega (arith, file-size m w (format-pcm-long (m .format) tag) refl f d e)
+    omega (arith, file-size m b w (format-pcm-long (m .format) tag) refl f d e refl)

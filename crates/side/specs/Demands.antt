@@ -16,7 +16,9 @@ use Rattle.units.specs.declared.Verdict.the-variants as verdict
 use Rattle.units.specs.Refusals.{fileLimit}
 use Rattle.units.specs.Checks.{numberOr}
 use Rattle.formats.specs.declared.Format.{Format}
-use Rattle.reader.specs.Content.{reading, soundIn, fileFormat, fileFrames}
+use Rattle.titles.specs.Titles.{Entry}
+use Rattle.titles.specs.Writing.{listBytes}
+use Rattle.reader.specs.Content.{reading, soundIn, titlesIn, fileFormat, fileFrames}
 use Rattle.writer.specs.declared.Written.{Written}
 use Rattle.writer.specs.declared.Written.the-variants.{Bytes, Refused}
 use Rattle.writer.specs.File.{sizeOf, fileOf, writing, writtenNumber}
@@ -64,7 +66,8 @@ pub record Adds (s : List ℕ) (x : Sent) (n : BytePlace) : Type 0 where
   pub answer : answerTo s x ≡ Bytes n
 
 -- the file that adding x to a side file s makes, n bytes long: a side of the same format, whose running order is the old one with
--- one song more at the end; so every old song keeps its number, position, place, frames and its sound, byte for byte
+-- one song more at the end; so every old song keeps its number, position, place, frames and its sound, byte for byte. Its titles are
+-- the old ones, each with its text and in the same order, and none of the song's own
 pub record Grown (s : List ℕ) (x : Sent) (n : BytePlace) : Type 0 where
   pub long : n ≡ sizeOf (fileWith s x)
   pub bytes : T (areBytes (fileWith s x))
@@ -73,20 +76,26 @@ pub record Grown (s : List ℕ) (x : Sent) (n : BytePlace) : Type 0 where
   pub frames : fileFrames (fileWith s x) ≡ fileFrames s + fileFrames (x .file)
   pub songs : songsIn (fileWith s x) ≡ songsIn s ++ (songFrom (fileFrames s) x ∷ [])
   pub sound : soundIn (fileWith s x) ≡ soundIn s ++ soundIn (x .file)
+  pub titles : titlesIn (fileWith s x) ≡ titlesIn s
 
 unfoldable pub Grows : Type 0
 Grows = (s : List ℕ) (x : Sent) (n : BytePlace) → Adds s x n → Grown s x n
 
+-- the bytes of the list of titles, with its head
+abbrev pub titlesSize : List Entry → ℕ
+titlesSize [] = 0
+titlesSize (e ∷ es) = 8 + length (listBytes (e ∷ es))
+
 -- how long the file of a side with songs is: 68 bytes for the first twelve, the format, the heads of the chunks and the two counts,
--- 36 for the cue and the entry of each song, and the sound
-abbrev pub sideSize : Format → ℕ → ℕ → ℕ
-sideSize f songs frames = 68 + 36 * songs + bytesOfFrames f frames
+-- 36 for the cue and the entry of each song, the titles, and the sound
+abbrev pub sideSize : Format → ℕ → List Entry → ℕ → ℕ
+sideSize f songs titles frames = 68 + 36 * songs + titlesSize titles + bytesOfFrames f frames
 
 -- and it is within the limits
 pub record Limited (s : List ℕ) (x : Sent) : Type 0 where
   pub songs : length (songsIn (fileWith s x)) ≤ 64
   pub frames : fileFrames (fileWith s x) ≤ x .limit .0
-  pub size : length (fileWith s x) ≡ sideSize (fileFormat s) (length (songsIn s) + 1) (fileFrames s + fileFrames (x .file))
+  pub size : length (fileWith s x) ≡ sideSize (fileFormat s) (length (songsIn s) + 1) (titlesIn s) (fileFrames s + fileFrames (x .file))
   pub most : length (fileWith s x) ≤ fileLimit
 
 unfoldable pub StaysWithin : Type 0
@@ -149,12 +158,12 @@ OnceEach [] = Unit {0}
 OnceEach (x ∷ xs) = (isSent (x .number) xs ≡ false) × OnceEach xs
 
 -- there is place for x behind n songs that end at a frame: they are fewer than 64, the frames with it are within its own limit, and
--- the file with it is within the limit of files and its own room
+-- the file with it, which has no titles, is within the limit of files and its own room
 pub record FitsBehind (f : Format) (n at : ℕ) (x : Sent) : Type 0 where
   pub songs : n < 64
   pub frames : at + fileFrames (x .file) ≤ x .limit .0
-  pub size : sideSize f (n + 1) (at + fileFrames (x .file)) ≤ fileLimit
-  pub lent : sideSize f (n + 1) (at + fileFrames (x .file)) ≤ x .room
+  pub size : sideSize f (n + 1) [] (at + fileFrames (x .file)) ≤ fileLimit
+  pub lent : sideSize f (n + 1) [] (at + fileFrames (x .file)) ≤ x .room
 
 -- so it is for each, behind those before it
 unfoldable pub AllFit : Format → ℕ → ℕ → List Sent → Type 0
@@ -166,18 +175,21 @@ pub record Complete (s t : List ℕ) (xs : List Sent) : Type 0 where
   pub side : isSideFile t ≡ true
   pub format : fileFormat t ≡ fileFormat s
   pub songs : songsIn t ≡ inRow 0 xs
+  pub titles : titlesIn t ≡ []
 
 unfoldable pub AllAdded : Type 0
 AllAdded =
     (s : List ℕ) (xs : List Sent) → T (areBytes s) → isSideFile s ≡ true → songsIn s ≡ []
     → AllSuitable (fileFormat s) xs → OnceEach xs → AllFit (fileFormat s) 0 0 xs → Complete s (addAll s xs) xs
 
--- whatever is sent, however often and in whatever order: the songs that a side s has stay on it, first, in order and unchanged
+-- whatever is sent, however often and in whatever order: the songs that a side s has stay on it, first, in order and unchanged, and
+-- so do its titles
 pub record Keeps (s t : List ℕ) : Type 0 where
   pub side : isSideFile t ≡ true
   pub format : fileFormat t ≡ fileFormat s
   pub more : List Song
   pub songs : songsIn t ≡ songsIn s ++ more
+  pub titles : titlesIn t ≡ titlesIn s
 
 unfoldable pub AllBytewise : List Sent → Type 0
 AllBytewise [] = Unit {0}
@@ -213,8 +225,8 @@ pub record IsEmptySide (s : List ℕ) (channels rate : ℕ) : Type 0 where
 
 unfoldable pub EmptyMade : Type 0
 EmptyMade =
-    (channels rate room : ℕ) (n : BytePlace) → writing (emptySide channels rate) [] room ≡ Bytes n
-    → IsEmptySide (fileOf (emptySide channels rate) []) channels rate
+    (channels rate room : ℕ) (n : BytePlace) → writing (emptySide channels rate) [] [] room ≡ Bytes n
+    → IsEmptySide (fileOf (emptySide channels rate) [] []) channels rate
 
 -- and it is written: 9 but for 1 or 2 channels and a rate of 1 to 192,000, then 14 without room for its 44 bytes
 abbrev pub emptyNumber : ℕ → ℕ → ℕ → ℕ
@@ -223,7 +235,7 @@ emptyNumber channels rate room =
 
 unfoldable pub EmptyNumbered : Type 0
 EmptyNumbered =
-    (channels rate room : ℕ) → writtenNumber (writing (emptySide channels rate) [] room) ≡ emptyNumber channels rate room
+    (channels rate room : ℕ) → writtenNumber (writing (emptySide channels rate) [] [] room) ≡ emptyNumber channels rate room
 
 -- ---- the number of an answer, in the order of checks and the numbers of document 01; 0 where the song is added
 abbrev pub addNumber : List ℕ → List ℕ → Donation → Frames → ℕ → ℕ

@@ -28,10 +28,10 @@ OneAdding =
 
 -- `empty`: the same of an empty side
 pub record EmptyPromise (channels rate : ℕ) (d : List ℕ) (r : Written) (e : List ℕ) : Type 0 where
-  pub answer : r ≡ writing (emptySide channels rate) [] (length d)
+  pub answer : r ≡ writing (emptySide channels rate) [] [] (length d)
   pub number : writtenNumber r ≡ emptyNumber channels rate (length d)
-  pub size : (n : BytePlace) → r ≡ Bytes n → n .0 ≡ length (fileOf (emptySide channels rate) [])
-  pub buffer : e ≡ holding (writtenVerdict r) (fileOf (emptySide channels rate) []) d
+  pub size : (n : BytePlace) → r ≡ Bytes n → n .0 ≡ length (fileOf (emptySide channels rate) [] [])
+  pub buffer : e ≡ holding (writtenVerdict r) (fileOf (emptySide channels rate) [] []) d
 
 unfoldable pub OneEmpty : Type 0
 OneEmpty =

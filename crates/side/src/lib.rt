@@ -4,6 +4,8 @@
 // never added again, and the songs that are there stay as they are. All is settled before the first store.
 // The sound is copied once; it is looked at only where the number is listed.
 use formats::Format;
+use reader::Opened;
+use riff::Spot;
 use rules::Reading;
 use rules::Record;
 use tables::Cue;
@@ -24,10 +26,15 @@ ghost use lib.Dec.{eqb};
 ghost use lib.ListN.{length, take, getD};
 ghost use Rattle.units.specs.Checks.{decided};
 ghost use Rattle.little.specs.Writing.{holding};
-ghost use Rattle.writer.specs.File.{writing, fileOf, writtenVerdict};
+ghost use Rattle.writer.specs.File.{rightTitles, writing, fileOf, writtenVerdict};
 ghost use Rattle.tables.specs.Cues.{noCue};
+ghost use Rattle.titles.specs.Titles.{textsOf};
+ghost use Rattle.titles.specs.Lists.{entriesIn};
+ghost use Rattle.rules.specs.Rules.{readingBy};
 ghost use Rattle.side.specs.Side.{sixteenBit, tiled, isSide, sideRead, bytesOfFrames, framesAt, soundAt};
-ghost use Rattle.side.specs.Adding.{suits, hasPlace, onceMore, placeChecks, addVerdict, withSong, newFile, addedBy, adding, emptySide};
+ghost use Rattle.side.specs.Adding.{suits, hasPlace, onceMore, placeChecks, addVerdict, withSong, Carried};
+ghost use Rattle.side.specs.Adding.{judged, newRecord, newSound, newFile, adding, emptySide};
+ghost use Rattle.reader.specs.Content.{reading, soundSpot, titlesSpot, textsIn};
 
 // ---- a side
 
@@ -260,6 +267,7 @@ fn with_song(made: Record, number: Donation, frames: Frames) -> Record
     let end = made.frames;
     let cues = made.cues;
     let playlist = made.playlist;
+    let titles = made.titles;
     let cue = Cue {
         name: number,
         position: end,
@@ -275,53 +283,92 @@ fn with_song(made: Record, number: Donation, frames: Frames) -> Record
         frames: Frames(end.0 + frames.0),
         cues: tables::with_cue(cues, cue),
         playlist: tables::with_play(playlist, play),
+        titles: titles,
     }
 }
 
-// Writes a side with one song more, whose sound follows the old one.
-fn join(
-    made: Record,
-    sound: &[u8],
-    number: Donation,
-    frames: Frames,
-    added: &[u8],
-    out: &mut [u8],
-) -> Written
-    requires { ⌜ (isSide made ≡ true) × (made .cues .count < 64) × (made .playlist .count ≤ 64) ⌝ }
-    requires { ⌜ made .frames .0 + frames .0 < 4294967296 ⌝ }
-    ensures answer { λ r. ⌜ r
-        ≡ writing (withSong made number frames) (now (sound .entry) ++ now (added .entry)) (length (now (out .entry))) ⌝ }
-    ensures buffer { λ r. ⌜ now (out .exit) ≡ holding (writtenVerdict r)
-        (fileOf (withSong made number frames) (now (sound .entry) ++ now (added .entry))) (now (out .entry)) ⌝ }
-{
-    let grown = with_song(made, number, frames);
-    writer::write_joined(grown, sound, added, out)
-}
-
-// Adds a song to a side: both as they were read, each with its sound.
-fn add_read(
+// The record of a side with one song more, or the refusal: both files as they were read, each with its sound.
+fn grow(
     side: Reading,
     sound: &[u8],
     song: Reading,
     added: &[u8],
     number: Donation,
     limit: Frames,
-    out: &mut [u8],
-) -> Written
+) -> Reading
     requires { ⌜ (side .made .cues .count ≤ 64) × (side .made .playlist .count ≤ 64) ⌝ }
-    ensures answer { λ r. ⌜ r ≡ addedBy (addVerdict side (now (sound .entry)) song (now (added .entry)) number limit)
-        (writing (withSong (side .made) number (song .made .frames)) (now (sound .entry) ++ now (added .entry))
-        (length (now (out .entry)))) ⌝ }
-    ensures buffer { λ r. ⌜ now (out .exit) ≡ holding (writtenVerdict r)
-        (fileOf (withSong (side .made) number (song .made .frames)) (now (sound .entry) ++ now (added .entry))) (now (out .entry)) ⌝ }
+    ensures answer { λ r. ⌜ r ≡ readingBy (addVerdict side (now (sound .entry)) song (now (added .entry)) number limit)
+        (withSong (side .made) number (song .made .frames)) ⌝ }
 {
     let old = side.made;
     let new = song.made;
     let verdict = settle(side, sound, song, added, number, limit);
     match verdict {
-        Verdict::Refused(refusal) => Written::Refused(refusal),
-        Verdict::Accepted => join(old, sound, number, new.frames, added, out),
+        Verdict::Refused(refusal) => rules::turned_away(refusal),
+        Verdict::Accepted => Reading {
+            verdict: verdict,
+            made: with_song(old, number, new.frames),
+        },
     }
+}
+
+// Writes a side, whose titles and texts are those of a list and whose sound comes in two parts. The texts go
+// from the list to the new file as they stand, with no buffer between.
+fn join(made: Record, list: &[u8], lost: bool, sound: &[u8], added: &[u8], out: &mut [u8]) -> Written
+    requires { ⌜ Carried made (now list) lost ⌝ }
+    ensures answer { λ r. ⌜ r ≡ writing made (textsOf (entriesIn (now (list .entry))))
+        (now (sound .entry) ++ now (added .entry)) (length (now (out .entry))) ⌝ }
+    ensures buffer { λ r. ⌜ now (out .exit) ≡ holding (writtenVerdict r) (fileOf made (textsOf (entriesIn (now (list .entry))))
+        (now (sound .entry) ++ now (added .entry))) (now (out .entry)) ⌝ }
+{
+    let found = titles::find_titles(list, lost);
+    let listed = rules::with_titles(made, found.titles);
+    writer::write_joined(listed, true, list, sound, added, out)
+}
+
+// The same of two files, as they were opened.
+fn grow_files(
+    side: &[u8],
+    opened: Opened,
+    song: &[u8],
+    sent: Opened,
+    number: Donation,
+    limit: Frames,
+) -> Reading
+    requires { ⌜ (opened .answer ≡ reading (now side)) × (opened .sound ≡ soundSpot (now side)) ⌝ }
+    requires { ⌜ (sent .answer ≡ reading (now song)) × (sent .sound ≡ soundSpot (now song)) ⌝ }
+    ensures answer { λ r. ⌜ r ≡ readingBy (judged (now (side .entry)) (now (song .entry)) number limit)
+        (newRecord (now (side .entry)) (now (song .entry)) number) ⌝ }
+{
+    let spot = opened.sound;
+    let sent_spot = sent.sound;
+    let sound = riff::part(side, spot, b"");
+    let added = riff::part(song, sent_spot, b"");
+    grow(opened.answer, sound, sent.answer, added, number, limit)
+}
+
+// Writes a record with the titles of a side, and with its sound and that of a song behind it.
+fn join_files(
+    made: Record,
+    side: &[u8],
+    opened: Opened,
+    song: &[u8],
+    sent: Spot,
+    out: &mut [u8],
+) -> Written
+    requires { ⌜ (opened .sound ≡ soundSpot (now side)) × (opened .titles ≡ titlesSpot (now side)) × (sent ≡ soundSpot (now song)) ⌝ }
+    requires { ⌜ (made .titles ≡ reading (now side) .made .titles) × (rightTitles made (textsIn (now side)) ≡ true) ⌝ }
+    ensures answer { λ r. ⌜ r ≡ writing made (textsIn (now (side .entry)))
+        (newSound (now (side .entry)) (now (song .entry))) (length (now (out .entry))) ⌝ }
+    ensures buffer { λ r. ⌜ now (out .exit) ≡ holding (writtenVerdict r) (fileOf made (textsIn (now (side .entry)))
+        (newSound (now (side .entry)) (now (song .entry)))) (now (out .entry)) ⌝ }
+{
+    let spot = opened.sound;
+    let list_spot = opened.titles;
+    let sound = riff::part(side, spot, b"");
+    let added = riff::part(song, sent, b"");
+    let list = riff::part(side, list_spot, b"");
+    join(made, list, riff::pad_lost(list_spot), sound, added, out)
 }
 
 // Adds a song to a side: the new side is written from the start of a lent buffer.
@@ -332,13 +379,13 @@ pub fn add(side: &[u8], song: &[u8], number: Donation, limit: Frames, out: &mut 
 {
     let opened = reader::open(side);
     let sent = reader::open(song);
-    let old = opened.answer;
-    let new = sent.answer;
-    let spot = opened.sound;
-    let sent_spot = sent.sound;
-    let sound = riff::part(side, spot, b"");
-    let added = riff::part(song, sent_spot, b"");
-    add_read(old, sound, new, added, number, limit, out)
+    let grown = grow_files(side, opened, song, sent, number, limit);
+    let verdict = grown.verdict;
+    if let Verdict::Refused(refusal) = verdict {
+        return Written::Refused(refusal);
+    }
+    let spot = sent.sound;
+    join_files(grown.made, side, opened, song, spot, out)
 }
 
 // ---- an empty side
@@ -353,13 +400,13 @@ fn empty_record(channels: u16, rate: u32) -> Record
 
 // Writes an empty side of some channels and a rate, from the start of a lent buffer.
 pub fn empty(channels: u16, rate: u32, out: &mut [u8]) -> Written
-    ensures answer { λ r. ⌜ r ≡ writing (emptySide channels rate) [] (length (now (out .entry))) ⌝ }
-    ensures buffer { λ r. ⌜ now (out .exit) ≡ holding (writtenVerdict r) (fileOf (emptySide channels rate) []) (now (out .entry)) ⌝ }
+    ensures answer { λ r. ⌜ r ≡ writing (emptySide channels rate) [] [] (length (now (out .entry))) ⌝ }
+    ensures buffer { λ r. ⌜ now (out .exit) ≡ holding (writtenVerdict r) (fileOf (emptySide channels rate) [] []) (now (out .entry)) ⌝ }
 {
     // So that the align fits; more channels are refused as writing refuses them.
     if 2 < channels {
         return Written::Refused(Refusal::FormatWrong);
     }
     let made = empty_record(channels, rate);
-    writer::write(made, b"", out)
+    writer::write(made, b"", b"", out)
 }

@@ -27,8 +27,8 @@ use Rattle.riff.proofs.Bytes.{body-bytes}
 use Rattle.riff.proofs.Padding.{next-place}
 use Rattle.titles.specs.declared.Title.{Title}
 use Rattle.titles.specs.declared.Titles.{Titles}
-use Rattle.titles.specs.Titles.{Entry, noEntry, entryIn, firstEntries, entriesOf, closed, entryRule, eachRule, namesBy, entriesRule, textsOf, placedFrom, noTitle, noTitles, tableOf, tableFor, textsEnd}
-use Rattle.titles.specs.Lists.{frontKind, frontEntry, frontRest, withEntry, entriesBy, entriesIn, frontFits, tilesBy, tiles, listForm, listValid, titlesOf}
+use Rattle.titles.specs.Titles.{Entry, noEntry, entryIn, firstEntries, entriesOf, closed, entryRule, eachRule, namesBy, entriesRule, textOf, textsOf, placedFrom, noTitle, noTitles, tableOf, tableFor, textsEnd}
+use Rattle.titles.specs.Lists.{frontKind, frontEntry, frontRest, withEntry, entriesBy, entriesIn, frontFits, tilesBy, tiles, listForm, listValid, titlesOf, Stands}
 use Rattle.titles.specs.Writing.{codeOf, pieceOf, listBytes, inRow, titlesRight, titlesKept, TitlesFit, Short}
 use Rattle.titles.proofs.Entries.{entries-long, entry-at}
 use Rattle.titles.proofs.Walking.{title-size, fits-all, within, entries-none}
@@ -87,6 +87,11 @@ module _ (names s : List ℕ) (t : Titles) (fit : TitlesFit t) (e : titlesRight 
       let r : entriesRule names (entriesIn (listBytes es)) ≡ true = ap (entriesRule names) round-entries ∙ right-both .1 in
       simp (list-written es fits lost (omega (arith, many, few)), r)
 
+-- ---- titles that stand in a list whose titles keep the rule are short
+pub rule-of : (names s : List ℕ) (t : Titles) → titlesRight names s t ≡ true → entriesRule names (entriesOf s t) ≡ true
+unfolding titlesRight
+rule-of names s t e = and-both (leb (t .count) 128 && inRow (length s) 0 (take (t .count) (t .list))) (entriesRule names (entriesOf s t)) e .1
+
 -- ---- no list is one without titles
 pub none-in : entriesIn [] ≡ []
 unfolding entriesIn entriesBy
@@ -112,6 +117,17 @@ no-entries s t h = let e : t .count ≡ 0 = omega arith in ap (λ (n : ℕ). map
 pub none-kept : (t : Titles) → t .count < 1 → titlesKept t ≡ noTitles
 unfolding titlesKept tableOf
 none-kept t h = let e : t .count ≡ 0 = omega arith in ap (λ (n : ℕ). tableOf (take n (t .list))) e
+
+-- how many titles a table has that is read
+pub titles-many : (l : List ℕ) → titlesOf l .count ≡ length (entriesIn l)
+unfolding tableOf
+titles-many l = placed-long 0 (entriesIn l)
+
+-- no title names a cue where there is none
+pub no-names : (es : List Entry) → entriesRule [] es ≡ true → es ≡ []
+unfolding has indexIn
+no-names [] e = refl
+no-names (x ∷ es) e = absurd (omega (arith, ltb-true 0 0 (rule-kept [] x (entry-kept [] (x ∷ es) e 0 (omega arith)) .named)))
 
 -- ---- a table that is read is as it would be read back
 pub titles-kept : (l : List ℕ) → titlesKept (titlesOf l) ≡ titlesOf l
@@ -308,6 +324,17 @@ unfolding tableOf
 valid-shorter lost l names e h =
     not-longer lost l (form-both lost l names e .0) (some-long l (omega (arith, placed-long 0 (entriesIn l))))
 
+-- a list that is written is even, as each of its chunks is
+even-body : (es : List Entry) → length (bodyBytes (map pieceOf es)) % 2 ≡ 0
+unfolding bodyBytes
+even-body [] = refl
+even-body (e ∷ es) = omega (arith, length-body (pieceOf e) (map pieceOf es), even-body es)
+
+pub list-even : (es : List Entry) → length (listBytes es) % 2 ≡ 0
+unfolding listBytes
+list-even es =
+    omega (arith, length-append (codeBytes code.Titles) (bodyBytes (map pieceOf es)), length-code code.Titles, even-body es)
+
 -- ---- a list that is written of bytes is bytes
 titles-bytes : (s : List ℕ) → T (areBytes s) → (ts : List Title) → T (areBytes (bodyBytes (map pieceOf (map (entryIn s) ts))))
 unfolding bodyBytes pieceOf
@@ -321,3 +348,33 @@ titles-bytes s b (t ∷ ts) =
 pub list-bytes : (s : List ℕ) (t : Titles) → T (areBytes s) → T (areBytes (listBytes (entriesOf s t)))
 unfolding listBytes firstEntries
 list-bytes s t b = both-bytes (codeBytes code.Titles) _ (code-bytes code.Titles) (titles-bytes s b (take (t .count) (t .list)))
+
+-- so are the texts of a list of bytes
+texts-of-bytes : (n : ℕ) (l : List ℕ) → T (areBytes l) → T (areBytes (textsOf (entriesBy n l)))
+unfolding entriesBy frontEntry textsOf entryBytes
+texts-of-bytes zero l b = tt
+texts-of-bytes (suc n) l b = by (texts-of-bytes n (frontRest l) (dropped-bytes (nextAt l 0) l b)) (passes l 0) (ltb (frontKind l) 2)
+  where
+    by : T (areBytes (entryBytes textOf (entriesBy n (frontRest l)))) → (p k : Bool)
+        → T (areBytes (entryBytes textOf (cond p [] (cond k (frontEntry l ∷ entriesBy n (frontRest l)) (entriesBy n (frontRest l))))))
+    by rest true k = tt
+    by rest false true =
+        both-bytes (frontEntry l .text) (entryBytes textOf (entriesBy n (frontRest l)))
+        (taken-bytes (sizeAt l 0 - 4) (drop 12 l) (dropped-bytes 12 l b)) rest
+    by rest false false = rest
+
+pub texts-bytes : (l : List ℕ) → T (areBytes l) → T (areBytes (textsOf (entriesIn l)))
+unfolding entriesIn
+texts-bytes l b = texts-of-bytes (length l) (drop 4 l) (dropped-bytes 4 l b)
+
+-- ---- titles that stand in a list, and keep the rule as some others do, have no text that is too long
+pub stands-short : (names l : List ℕ) (t : Titles) → Stands l t → {es : List Entry} → entriesRule names es ≡ true → entriesIn l ≡ es
+    → t .count ≤ 128 → Short l (t .list) (t .count)
+stands-short names l t k {es} r e few =
+    record {
+      few = few;
+      texts = λ i h.
+          subst (λ (x : Entry). length (x .text) ≤ 256)
+          (ap (λ (xs : List Entry). getD xs i noEntry) (sym (k .entries ∙ e)) ∙ entry-at l (t .list) (t .count) (omega (arith, k .room)) i h)
+          (rule-kept names (getD es i noEntry) (entry-kept names es r i (omega (arith, k .many, ap length e))) .short);
+    }
