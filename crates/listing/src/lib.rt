@@ -75,9 +75,10 @@ fn accepted(made: Record) {
     plays(playlist);
 }
 
-// The listing of a file.
+// The listing of a file. It shows no titles, so the file is opened and not read with room for their texts.
 pub fn list(file: &[u8]) {
-    let reading = reader::read(file);
+    let opened = reader::open(file);
+    let reading = opened.answer;
     let verdict = reading.verdict;
     let made = reading.made;
     match verdict {
