@@ -33,7 +33,7 @@ use Rattle.encode.proofs.Answers.{Settled, settled-says}
 use Rattle.encode.proofs.Blocks.{per-some, begun}
 use Rattle.encode.proofs.Frames.{block-among}
 use Rattle.encode.proofs.Demands.{accepted, quality}
-use Rattle.writer.specs.File.{fileOf}
+use Rattle.writer.specs.File.{fileOf, rightTitles}
 use Rattle.writer.proofs.Files.{sound-limit}
 use Rattle.writer.proofs.Settling as settling
 use Rattle.writer.proofs.Demands.{bytes-say, content-written}
@@ -45,7 +45,7 @@ use Rattle.decode.proofs.Checks.{whole-valid}
 use Rattle.approval.specs.Approval.{approvalRecord}
 use Rattle.approval.specs.Demands.{recordFor, RulesHold, stepAfter, Approved, WholeWay, CopyWritten, Met}
 use Rattle.approval.proofs.Rules.{blocks-are, rules-hold}
-use Rattle.approval.proofs.Sending.{kept-same, record-fits, file-below}
+use Rattle.approval.proofs.Sending.{kept-same, titles-right, record-fits, file-below}
 
 -- ---- what an answer that is blocks says
 encoded-says : (s : List ℤ) (c a room : ℕ) (w : Coded) → encoding s c a room ≡ Blocks w → Settled (length s) c a room
@@ -161,11 +161,12 @@ whole-way s c rate a room size most told n z e put enough =
     let m = recordFor s c rate a in
     let w : List ℕ = encodedBytes c a s in
     let frames : Frames = record { 0 = length s / c } in
-    let v = bytes-say m w size n put in
-    let k = settling.settled-says m w size v in
-    let fits = record-fits c rate a frames (k .rules) (sound-limit m w size v) in
-    let held = content-written m w size n fits put ∙ ap (λ (x : Record). holds x w) (kept-same c rate a frames) in
-    approved s c rate a room most told m (fileOf m w) z e refl refl held enough
+    let right = rightTitles m [] in
+    let v = bytes-say right m [] w size n put in
+    let k = settling.settled-says right m [] w size v in
+    let fits = record-fits c rate a frames (k .rules) (sound-limit right m [] w size v) in
+    let held = content-written m [] w size n fits put ∙ ap (λ (x : Record). holds x w) (kept-same c rate a frames) in
+    approved s c rate a room most told m (fileOf m [] w) z e refl refl held enough
 
 pub sent : CopyWritten
 unfolding CopyWritten RulesHold
@@ -173,7 +174,7 @@ sent s c rate a room size told e h g fits =
     let t : Settled (length s) c a room = encoded-says s c a room told e in
     let m = recordFor s c rate a in
     let w : List ℕ = encodedBytes c a s in
-    written.accepted m w size (rules-hold s c rate a (codable-is (t .valid)) h g)
+    written.accepted m [] w size (rules-hold s c rate a (codable-is (t .valid)) h g) (titles-right c rate a (record { 0 = length s / c }))
     (file-below s c rate a (t .valid) (t .small)) fits
 
 -- ---- the premises can be met
@@ -187,7 +188,7 @@ two-taken = refl
 pub met : Met
 unfolding Met WholeWay CopyWritten
 met size h =
-    let n : BytePlace = record { 0 = length (fileOf (recordFor two 1 8000 12) (encodedBytes 1 12 two)) } in
+    let n : BytePlace = record { 0 = length (fileOf (recordFor two 1 8000 12) [] (encodedBytes 1 12 two)) } in
     let z : Sixteen two = sixteen-more (omega arith) (sixteen-more (omega arith) sixteen-none) in
     let put = sent two 1 8000 12 12 size (codedOf 1 12 two) two-taken (omega arith) (omega arith) h in
     (put, whole-way two 1 8000 12 12 size 2 (codedOf 1 12 two) n z two-taken put (omega arith))

@@ -1,15 +1,16 @@
--- The file of a copy: its record is read back as it was written, since both tables are empty, and the file is never above the
+-- The file of a copy: its record is read back as it was written, since its tables are empty, and the file is never above the
 -- limit, since a block has no more bytes than samples. Assumes nothing.
 use mathlib.Core.Path.{_≡_, refl}
 use mathlib.Core.Bool.{true}
-use mathlib.Core.List.{List}
+use mathlib.Core.List.{List, []}
 use Prim.Native.Nat.{ℕ, _+_, _-_, _*_, _/_, _%_, _≤_}
 use native.Mathlib.Nat.{mul-comm, mul-left-comm, mul-add, mul-le-mul-left, div-mul-le-self}
 use native.Mathlib.Omega.{arith}
 use lib.IntN.{ℤ}
-use lib.ListN.{length, getD, replicate, length-replicate, getD-replicate, List·getD-eq-default}
+use lib.ListN.{length, length-replicate}
+use Rattle.lists.specs.Among.{distinct}
+use Rattle.lists.specs.Every.{every}
 use Rattle.units.specs.Refusals.{fileLimit}
-use Rattle.samples.proofs.Signed.{by-ltb}
 use Rattle.units.specs.declared.BytePlace.{BytePlace}
 use Rattle.units.specs.declared.Frames.{Frames}
 use Rattle.formats.specs.Frames.{needsFact}
@@ -19,10 +20,14 @@ use Rattle.tables.specs.Tables.{held}
 use Rattle.tables.specs.Cues.{noCue}
 use Rattle.tables.specs.Plays.{noPlay}
 use Rattle.tables.specs.Bytes.{zeroPast, cuesKept, playsKept, CuesFit, PlaysFit}
+use Rattle.tables.proofs.Entries.{all-zero}
+use Rattle.titles.specs.Titles.{firstEntries, eachRule, namesBy, entriesRule, tableOf}
+use Rattle.titles.specs.Writing.{titlesRight, inRow, titlesKept, TitlesFit}
 use Rattle.rules.specs.Rules.{Writable}
 use Rattle.rules.specs.Written.{recordKept, RecordFits}
-use Rattle.writer.specs.File.{fileOf}
-use Rattle.writer.proofs.Sizes.{file-size, fact-size, cues-none, plays-none}
+use Rattle.rules.proofs.Again.{none-fit}
+use Rattle.writer.specs.File.{fileOf, rightTitles}
+use Rattle.writer.proofs.Sizes.{file-size, fact-size, cues-none, plays-none, titles-none}
 use Rattle.formats.specs.Format.{imaSamples, imaFormat}
 use Rattle.encode.specs.Encoding.{blocksFor, encodedBytes}
 use Rattle.formats.proofs.Making.{Codable}
@@ -32,14 +37,9 @@ use Rattle.approval.specs.Demands.{recordFor}
 use Rattle.approval.proofs.Rules.{sound-long}
 
 -- ---- the tables are empty
-empty-at : {A : Type 0} (z : A) (i : ℕ) → getD (replicate 64 z) i z ≡ z
-empty-at z i =
-    by-ltb i 64 (λ _. getD (replicate 64 z) i z ≡ z) (λ h. getD-replicate 64 i z z h)
-    (λ h. List·getD-eq-default (replicate 64 z) z {n = i} (omega (arith, length-replicate 64 z)))
-
 module _ (c rate a : ℕ) (frames : Frames) where
   pub kept-same : recordKept (approvalRecord c rate a frames) ≡ approvalRecord c rate a frames
-  unfolding recordKept cuesKept playsKept zeroPast held approvalRecord
+  unfolding recordKept cuesKept playsKept titlesKept zeroPast held tableOf approvalRecord
   kept-same = refl
 
   cues-fit : CuesFit (approvalRecord c rate a frames .cues)
@@ -48,9 +48,9 @@ module _ (c rate a : ℕ) (frames : Frames) where
       record {
         count = omega arith;
         room = length-replicate 64 noCue;
-        name = λ i. rw (empty-at noCue i) (omega arith);
-        position = λ i. rw (empty-at noCue i) (omega arith);
-        place = λ i. rw (empty-at noCue i) (omega arith);
+        name = λ i. rw (all-zero noCue 64 i) (omega arith);
+        position = λ i. rw (all-zero noCue 64 i) (omega arith);
+        place = λ i. rw (all-zero noCue 64 i) (omega arith);
       }
 
   plays-fit : PlaysFit (approvalRecord c rate a frames .playlist)
@@ -59,10 +59,19 @@ module _ (c rate a : ℕ) (frames : Frames) where
       record {
         count = omega arith;
         room = length-replicate 64 noPlay;
-        name = λ i. rw (empty-at noPlay i) (omega arith);
-        long = λ i. rw (empty-at noPlay i) (omega arith);
-        times = λ i. rw (empty-at noPlay i) (omega arith);
+        name = λ i. rw (all-zero noPlay 64 i) (omega arith);
+        long = λ i. rw (all-zero noPlay 64 i) (omega arith);
+        times = λ i. rw (all-zero noPlay 64 i) (omega arith);
       }
+
+  titles-fit : TitlesFit (approvalRecord c rate a frames .titles)
+  unfolding approvalRecord
+  titles-fit = none-fit
+
+  -- titles that there are none of need no texts
+  pub titles-right : rightTitles (approvalRecord c rate a frames) [] ≡ true
+  unfolding approvalRecord titlesRight inRow entriesRule eachRule every namesBy distinct firstEntries
+  titles-right = refl
 
   -- a record that keeps the rules fits its fields
   pub record-fits : {n : BytePlace} → Writable (approvalRecord c rate a frames) n → n .0 ≤ fileLimit
@@ -74,6 +83,7 @@ module _ (c rate a : ℕ) (frames : Frames) where
         frames = frames-bound (m .format) n (m .frames) (k .format) (k .count) l;
         cues = cues-fit;
         plays = plays-fit;
+        titles = titles-fit;
       }
 
 -- ---- the limit
@@ -82,14 +92,14 @@ module _ (s : List ℤ) (c rate a : ℕ) (w : Codable c a) where
   bytes = encodedBytes c a s
 
   -- 12 bytes, `fmt ` of 20, `fact` of 4, and the sound, with eight before each
-  file-long : length (fileOf (recordFor s c rate a) bytes) ≡ 60 + (length bytes + length bytes % 2)
+  file-long : length (fileOf (recordFor s c rate a) [] bytes) ≡ 60 + (length bytes + length bytes % 2)
   unfolding approvalRecord imaFormat needsFact
   file-long =
       let m = recordFor s c rate a in
       let n : _≡_ {A = ℕ} 17 1 → ⊥ = λ e. omega arith in
-      let l = file-size m bytes (format-ima-long (m .format) n refl) refl
+      let l = file-size m [] bytes (format-ima-long (m .format) n refl) refl
       (fact-size (m .format) {a = true} refl refl) (cues-none (m .cues) (omega arith))
-      (plays-none (m .playlist) (omega arith)) in
+      (plays-none (m .playlist) (omega arith)) (titles-none [] (m .titles) (omega arith)) in
       omega arith
 
   -- a block has no more bytes than samples
@@ -115,5 +125,5 @@ module _ (s : List ℤ) (c rate a : ℕ) (w : Codable c a) where
       let l : length bytes ≡ b * a = sound-long w s in
       omega (arith, spare, w .most, mul-left-comm b c p, mul-add c f p, mul-comm f c, div-mul-le-self (length s) c)
 
-  pub file-below : length s ≤ 536870912 → length (fileOf (recordFor s c rate a) bytes) ≤ fileLimit
+  pub file-below : length s ≤ 536870912 → length (fileOf (recordFor s c rate a) [] bytes) ≤ fileLimit
   file-below h = omega (arith, file-long, sound-bound)

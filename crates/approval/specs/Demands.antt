@@ -75,7 +75,7 @@ pub record Copy (s : List ℤ) (c a : ℕ) (told : Coded) (file : List ℕ) (roo
   pub quality : Heard s c a (encodedBytes c a s) (told .left .0) (told .right .0)
 
 -- so it is for every sound of 16-bit samples that encoding accepts, and every file that holds its blocks under a record of
--- the copy's format and of as many frames; the record may have cues and a playlist
+-- the copy's format and of as many frames; the record may have cues, a playlist and titles
 unfoldable pub Approved : Type 0
 Approved =
     (s : List ℤ) (c rate a room most : ℕ) (told : Coded) (m : Record) (file : List ℕ) → Sixteen s
@@ -90,24 +90,24 @@ unfoldable pub WholeWay : Type 0
 WholeWay =
     (s : List ℤ) (c rate a room size most : ℕ) (told : Coded) (n : BytePlace) → Sixteen s
     → encoding s c a room ≡ Blocks told
-    → writing (recordFor s c rate a) (encodedBytes c a s) size ≡ Bytes n
+    → writing (recordFor s c rate a) [] (encodedBytes c a s) size ≡ Bytes n
     → length s ≤ most
-    → Copy s c a told (fileOf (recordFor s c rate a) (encodedBytes c a s)) most
+    → Copy s c a told (fileOf (recordFor s c rate a) [] (encodedBytes c a s)) most
 
 -- and writing takes the blocks of every sound that encoding accepts, at a rate from 1 to 192,000, where there is room for the
 -- file: the file is never above the limit
 unfoldable pub CopyWritten : Type 0
 CopyWritten =
     (s : List ℤ) (c rate a room size : ℕ) (told : Coded) → encoding s c a room ≡ Blocks told → 1 ≤ rate → rate ≤ 192000
-    → length (fileOf (recordFor s c rate a) (encodedBytes c a s)) ≤ size
-    → writing (recordFor s c rate a) (encodedBytes c a s) size
-    ≡ Bytes (record { 0 = length (fileOf (recordFor s c rate a) (encodedBytes c a s)) })
+    → length (fileOf (recordFor s c rate a) [] (encodedBytes c a s)) ≤ size
+    → writing (recordFor s c rate a) [] (encodedBytes c a s) size
+    ≡ Bytes (record { 0 = length (fileOf (recordFor s c rate a) [] (encodedBytes c a s)) })
 
 -- ---- and the premises can be met: two samples, mono, in a block of 12 bytes
 unfoldable pub Met : Type 0
 Met =
     let two : List ℤ = pos 0 ∷ pos 13 ∷ [] in
-    let file : List ℕ = fileOf (recordFor two 1 8000 12) (encodedBytes 1 12 two) in
+    let file : List ℕ = fileOf (recordFor two 1 8000 12) [] (encodedBytes 1 12 two) in
     (size : ℕ) → length file ≤ size
-    → (writing (recordFor two 1 8000 12) (encodedBytes 1 12 two) size ≡ Bytes (record { 0 = length file }))
+    → (writing (recordFor two 1 8000 12) [] (encodedBytes 1 12 two) size ≡ Bytes (record { 0 = length file }))
     × Copy two 1 12 (codedOf 1 12 two) file 2
