@@ -3,12 +3,14 @@
 // Every operation takes every input and ends. Where it refuses, every lent buffer holds what it held
 // before. What each one promises stands in docs/PROMISES.md, with the definitions that say it.
 
-// ---- units: frames, bytes and donation numbers are never taken for one another
+// ---- units: frames, bytes of a file, bytes of texts and donation numbers are never taken for one another
 
 // A number of frames: one sample of each channel is a frame.
 pub use units::Frames;
 // A place in a file or a buffer, or a length of one, in bytes.
 pub use units::BytePlace;
+// A place among the texts of titles, or a length of one, in bytes.
+pub use units::TextPlace;
 // The number under which a song was donated.
 pub use units::Donation;
 
@@ -33,14 +35,23 @@ pub use tables::Cues;
 pub use tables::Play;
 // At most 64 entries.
 pub use tables::Playlist;
-// Format, frames, cues and playlist.
+// A title: its kind, the name of its cue, and where its text stands in a buffer of texts.
+pub use titles::Title;
+// At most 128 titles.
+pub use titles::Titles;
+// The two kinds of a title.
+pub use titles::LABEL;
+pub use titles::NOTE;
+// Room for the texts of every file.
+pub use titles::MOST_BYTES;
+// Format, frames, cues, playlist and titles.
 pub use rules::Record;
 
 // ---- reading
 
 // The verdict on a file and its record, which is all zero where the file is refused.
 pub use rules::Reading;
-// Reads a file: refusals 1 to 13.
+// Reads a file, and puts the texts of its titles into a lent buffer: refusals 1 to 13, 21, 14.
 pub use reader::read;
 // The sound data of a file, that very part of it; of a refused file, an empty part.
 pub use reader::sound_of;
@@ -49,7 +60,7 @@ pub use reader::sound_of;
 
 // The bytes of the file or the new side that was written, or why there is none.
 pub use writer::Written;
-// Writes a record and its sound as a file: 9 to 13, 1, 14.
+// Writes a record, the texts of its titles and its sound as a file: 9 to 13, 21, 1, 14.
 pub use writer::write;
 
 // ---- decoding to 16-bit samples, the channels in turn
