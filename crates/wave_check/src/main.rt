@@ -7,7 +7,8 @@ use wave::Verdict;
 
 // The verdict on a file.
 fn check(file: &[u8]) {
-    let reading = wave::read(file);
+    let mut texts = files::texts_room();
+    let reading = wave::read(file, &mut texts);
     let verdict = reading.verdict;
     match verdict {
         Verdict::Accepted => show::word(b"accepted\n"),

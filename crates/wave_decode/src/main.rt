@@ -1,6 +1,6 @@
 // wave_decode IN OUT: decodes a WAVE file, and writes its sound as a WAVE file of 16-bit PCM with the same
-// channels, rate, cues and playlist to OUT, which is a new name. Prints how many frames it has and how many bytes
-// the new file has; or `refused` and the number of the refusal, and then it writes nothing.
+// channels, rate, cues, playlist and titles to OUT, which is a new name. Prints how many frames it has and how many
+// bytes the new file has; or `refused` and the number of the refusal, and then it writes nothing.
 //
 // IN may have 262,144 bytes at most; a longer one is `refused 1`. No such file lacks room. All is held on the
 // stack, 3.4 MB.
@@ -29,11 +29,13 @@ fn plain(made: Record) -> Record {
     let frames = made.frames;
     let cues = made.cues;
     let playlist = made.playlist;
+    let titles = made.titles;
     Record {
         format: format,
         frames: frames,
         cues: cues,
         playlist: playlist,
+        titles: titles,
     }
 }
 
@@ -46,17 +48,17 @@ fn keep(frames: Frames, file: &[u8]) {
     files::size(file);
 }
 
-// Writes the file of a record and its sound.
-fn write(made: Record, sound: &[u8]) {
+// Writes the file of a record, the texts of its titles and its sound.
+fn write(made: Record, texts: &[u8], sound: &[u8]) {
     let mut out = files::new_room();
-    match wave::write(made, sound, &mut out) {
+    match wave::write(made, texts, sound, &mut out) {
         Written::Bytes(size) => keep(made.frames, little::bytes_from(&out, BytePlace(0), size)),
         Written::Refused(refusal) => listing::refused(refusal),
     }
 }
 
 // Writes the frames at the start of a sound.
-fn write_sound(made: Record, sound: &[i16; 524288]) {
+fn write_sound(made: Record, texts: &[u8], sound: &[i16; 524288]) {
     let mut raw = files::new_room();
     samples::to_pcm16(sound, &mut raw);
     let format = made.format;
@@ -64,17 +66,19 @@ fn write_sound(made: Record, sound: &[i16; 524288]) {
     let n = files::samples_in(frames, format.channels);
     write(
         made,
+        texts,
         little::bytes_from(&raw, BytePlace(0), BytePlace(2 * n)),
     );
 }
 
 // Decodes a file.
 fn decode(file: &[u8]) {
-    let reading = wave::read(file);
+    let mut texts = files::texts_room();
+    let reading = wave::read(file, &mut texts);
     let made = reading.made;
     let mut sound = files::sound_room();
     match wave::decode(file, &mut sound) {
-        Decoded::Frames(_) => write_sound(plain(made), &sound),
+        Decoded::Frames(_) => write_sound(plain(made), &texts, &sound),
         Decoded::Refused(refusal) => listing::refused(refusal),
     }
 }

@@ -38,10 +38,10 @@ fn keep(frames: Frames, told: Coded, file: &[u8]) {
     chased(b"chased right ", right);
 }
 
-// Writes the file of a record and its blocks.
+// Writes the file of a record, which has no titles, and its blocks.
 fn write(made: Record, told: Coded, blocks: &[u8]) {
     let mut out = files::new_room();
-    match wave::write(made, blocks, &mut out) {
+    match wave::write(made, b"", blocks, &mut out) {
         Written::Bytes(size) => keep(
             made.frames,
             told,
@@ -75,7 +75,8 @@ fn heard(sound: &[i16], frames: Frames, channels: u16) -> &[i16] {
 
 // Makes the copy of a file.
 fn copy(file: &[u8], align: u16) {
-    let reading = wave::read(file);
+    let mut texts = files::texts_room();
+    let reading = wave::read(file, &mut texts);
     let made = reading.made;
     let format = made.format;
     let mut sound = files::sound_room();
