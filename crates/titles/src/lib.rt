@@ -29,6 +29,9 @@ ghost use Rattle.titles.specs.Writing.{codeOf, chunkOf, listBytes, inRow
 // The most titles: a label and a note for each of 64 cues.
 pub const MOST: u32 = 128;
 
+// The most bytes of their texts: room for those of every file. Each has 256 at most, its zero among them.
+pub const MOST_BYTES: usize = 32768;
+
 // The kinds of a title.
 pub const LABEL: u32 = 0;
 
