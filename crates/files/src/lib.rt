@@ -15,6 +15,7 @@ pub use reading::read;
 pub use rooms::file_room;
 pub use rooms::new_room;
 pub use rooms::sound_room;
+pub use rooms::texts_room;
 pub use sizes::samples_in;
 pub use sizes::size;
 pub use sizes::too_long;

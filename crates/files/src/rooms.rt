@@ -10,6 +10,13 @@ pub fn file_room() -> [u8; 262145]
     [0; 262145]
 }
 
+// Room for the texts of a file's titles: enough for every file.
+pub fn texts_room() -> [u8; titles::MOST_BYTES]
+    ensures long { λ r. ⌜ 32768 ≡ length r ⌝ }
+{
+    [0; titles::MOST_BYTES]
+}
+
 // Room for the sound of such a file: a byte holds less than two samples in every format.
 pub fn sound_room() -> [i16; 524288]
     ensures long { λ r. ⌜ 524288 ≡ length r ⌝ }
@@ -17,7 +24,8 @@ pub fn sound_room() -> [i16; 524288]
     [0; 524288]
 }
 
-// Room for a file of such a sound: two bytes for each sample at most, and 4,096 for the rest of the file.
+// Room for a file of such a sound: two bytes for each sample at most, and 4,096 for the rest of the file. A list
+// of titles may have more, but it was in the file that was read, in place of as many bytes of sound.
 pub fn new_room() -> [u8; 1052672]
     ensures long { λ r. ⌜ 1052672 ≡ length r ⌝ }
 {
