@@ -23,8 +23,10 @@ use Rattle.riff.specs.declared.Spot.{Spot}
 use Rattle.riff.specs.Walk.{partOf, startOf}
 use Rattle.rules.specs.declared.Record.{Record}
 use Rattle.rules.specs.declared.Reading.{Reading}
-use Rattle.reader.specs.Content.{reading, soundSpot, soundIn, soundStart}
+use Rattle.rules.specs.Rules.{turnedAway}
+use Rattle.reader.specs.Content.{reading, soundSpot, soundIn, soundStart, textsIn, readingIn}
 use Rattle.reader.proofs.Demands.{sound-placed}
+use Rattle.reader.proofs.Titles.{read-refused}
 use Rattle.writer.specs.declared.Written.{Written}
 use Rattle.writer.specs.declared.Written.the-variants as written
 use Rattle.writer.specs.File.{fileOf, writing, writtenVerdict}
@@ -38,7 +40,7 @@ use Rattle.encode.specs.Answer as encodes
 use Rattle.words.specs.Words.{recordWords, fieldsFit, recordFrom}
 use Rattle.wave_c.specs.declared.Answer.{Answer}
 use Rattle.wave_c.specs.declared.CodedAnswer.{CodedAnswer}
-use Rattle.wave_c.specs.Interface.{refusedBy, done, answerBy, ofWritten, ofDecoded, ofEncoded, enough, readVerdict, wordsValid, wordsWriting}
+use Rattle.wave_c.specs.Interface.{refusedBy, done, answerBy, ofWritten, ofDecoded, ofEncoded, enough, readVerdict, roomFor, recordVerdict, wordsValid, wordsWriting}
 
 -- ---- answers as numbers
 module _ (r : Refusal) {k : ℕ} (e : k ≡ numberOf r) where
@@ -99,9 +101,6 @@ module _ (n room : ℕ) where
     unfolding enough decided
     short = simp (lt-leb n room h)
 
-    pub number-short : {k : ℕ} → k ≡ numberOf OutputTooSmall → k ≡ verdictNumber (enough n room)
-    number-short e = e ∙ ap verdictNumber (sym short)
-
     pub answer-short : (m : ℕ) {y : Answer} → y ≡ refusedBy OutputTooSmall → y ≡ answerBy (enough n room) m
     answer-short m e = e ∙ ap (λ (v : Verdict). answerBy v m) (sym short)
 
@@ -112,9 +111,6 @@ module _ (n room : ℕ) where
     roomy : enough n room ≡ verdict.Accepted
     unfolding enough decided
     roomy = simp (le-leb n room h)
-
-    pub number-roomy : 0 ≡ verdictNumber (enough n room)
-    number-roomy = ap verdictNumber (sym roomy)
 
     pub answer-roomy : (m : ℕ) {y : Answer} → y ≡ done m → y ≡ answerBy (enough n room) m
     answer-roomy m e = e ∙ ap (λ (v : Verdict). answerBy v m) (sym roomy)
@@ -132,7 +128,7 @@ module _ (spot : Spot) (d : List ℕ) (h : 1 ≤ length d) where
   start-put e = ap (set d 0) e ∙ kept-roomy 1 (length d) h (startOf spot ∷ []) d (put-front (one-store (omega arith)))
 
 pub ruleset rooming =
-    (number-short, answer-short, kept-short, number-roomy, answer-roomy, kept-roomy, sound-counted, start-put)
+    (answer-short, kept-short, answer-roomy, kept-roomy, sound-counted, start-put)
 
 -- ---- the reader's refusals first
 module _ (n : ℕ) (s : List ℕ) (room : ℕ) {x : Reading} (e : x ≡ reading s) where
@@ -140,9 +136,6 @@ module _ (n : ℕ) (s : List ℕ) (room : ℕ) {x : Reading} (e : x ≡ reading 
     turned : readVerdict n s room ≡ verdict.Refused r
     unfolding readVerdict
     turned = ap (λ (v : Verdict). andThen v (enough n room)) (ap (λ (y : Reading). y .verdict) (sym e) ∙ f)
-
-    pub number-refused : {k : ℕ} → k ≡ numberOf r → k ≡ verdictNumber (readVerdict n s room)
-    number-refused g = g ∙ ap verdictNumber (sym turned)
 
     pub answer-refused : (m : ℕ) {y : Answer} → y ≡ refusedBy r → y ≡ answerBy (readVerdict n s room) m
     answer-refused m g = g ∙ ap (λ (v : Verdict). answerBy v m) (sym turned)
@@ -155,13 +148,6 @@ module _ (n : ℕ) (s : List ℕ) (room : ℕ) {x : Reading} (e : x ≡ reading 
     unfolding readVerdict
     taken = ap (λ (v : Verdict). andThen v (enough n room)) (sym f ∙ ap (λ (y : Reading). y .verdict) e)
 
-    pub number-taken : {k : ℕ} → k ≡ verdictNumber (enough n room) → k ≡ verdictNumber (readVerdict n s room)
-    number-taken g = g ∙ ap verdictNumber taken
-
-    pub record-kept : (d : List ℕ) {z : List ℕ} → z ≡ holding (enough n room) (recordWords (x .made)) d
-        → z ≡ holding (readVerdict n s room) (recordWords (reading s .made)) d
-    record-kept d g = g ∙ (λ i. holding (taken i) (recordWords (e i .made)) d)
-
     module _ {spot : Spot} (h : spot ≡ soundSpot s) where
       pub sound-told : {y : Answer} → y ≡ answerBy (enough n room) (length (partOf s spot [])) → y ≡ answerBy (readVerdict n s room) (length (soundIn s))
       sound-told g =
@@ -173,54 +159,134 @@ module _ (n : ℕ) (s : List ℕ) (room : ℕ) {x : Reading} (e : x ≡ reading 
       unfolding soundStart
       start-kept d g = g ∙ (λ i. holding (taken i) (startOf (h i) ∷ []) d)
 
-pub ruleset reading-first = (number-refused, answer-refused, kept-refused, number-taken, record-kept, sound-told, start-kept)
+pub ruleset reading-first = (answer-refused, kept-refused, sound-told, start-kept)
+
+-- ---- a record and the texts of its titles
+-- a verdict's number, and the words that are put by it
+module _ {v : Verdict} {r : Refusal} (f : v ≡ verdict.Refused r) where
+  pub refused-number : {k : ℕ} → k ≡ numberOf r → k ≡ verdictNumber v
+  refused-number g = g ∙ ap verdictNumber (sym f)
+
+  pub refused-kept : (ys d : List ℕ) → d ≡ holding v ys d
+  refused-kept ys d = ap (λ (u : Verdict). holding u ys d) (sym f)
+
+  pub short-refused : {k : ℕ} (u : Verdict) → k ≡ numberOf r → k ≡ verdictNumber (andThen v u)
+  short-refused u g = g ∙ ap (λ (x : Verdict). verdictNumber (andThen x u)) (sym f)
+
+module _ {v : Verdict} (f : v ≡ verdict.Accepted) where
+  pub taken-number : 0 ≡ verdictNumber v
+  taken-number = ap verdictNumber (sym f)
+
+  pub taken-kept : (ys d : List ℕ) {z : List ℕ} → z ≡ front ys d → z ≡ holding v ys d
+  taken-kept ys d g = g ∙ ap (λ (u : Verdict). holding u ys d) (sym f)
+
+  pub short-taken : {k : ℕ} (r : Refusal) → k ≡ numberOf r → k ≡ verdictNumber (andThen v (verdict.Refused r))
+  short-taken r g = g ∙ ap (λ (x : Verdict). verdictNumber (andThen x (verdict.Refused r))) (sym f)
+
+pub verdict-of : (s : List ℕ) {x : Reading} {v : Verdict} → x ≡ reading s → x .verdict ≡ v → reading s .verdict ≡ v
+verdict-of s e f = ap (λ (y : Reading). y .verdict) (sym e) ∙ f
+
+pub ruleset putting = (refused-number, refused-kept, short-refused, taken-number, taken-kept, short-taken, verdict-of)
+
+module _ (s : List ℕ) (words room : ℕ) where
+  -- too few words
+  module _ (h : words < 906) where
+    few : recordVerdict s words room ≡ andThen (reading s .verdict) (verdict.Refused OutputTooSmall)
+    unfolding recordVerdict roomFor decided
+    few = simp (lt-leb 906 words h)
+
+    pub few-number : {k : ℕ} → k ≡ verdictNumber (andThen (reading s .verdict) (verdict.Refused OutputTooSmall)) → k ≡ verdictNumber (recordVerdict s words room)
+    few-number e = e ∙ ap verdictNumber (sym few)
+
+    pub few-kept : (ys d : List ℕ) → d ≡ holding (recordVerdict s words room) ys d
+    few-kept ys d = by (reading s .verdict) ∙ ap (λ (v : Verdict). holding v ys d) (sym few)
+      where
+        by : (v : Verdict) → d ≡ holding (andThen v (verdict.Refused OutputTooSmall)) ys d
+        by verdict.Accepted = refl
+        by (verdict.Refused r) = refl
+
+  -- words enough: then it is reading's own answer, with room for the texts
+  module _ (h : 906 ≤ words) {x : Reading} (e : x ≡ readingIn s room) where
+    texts-verdict : (v : Verdict) → reading s .verdict ≡ v → andThen v (cond (leb (length (textsIn s)) room) verdict.Accepted (verdict.Refused OutputTooSmall)) ≡ readingIn s room .verdict
+    unfolding readingIn
+    texts-verdict verdict.Accepted f = by (leb (length (textsIn s)) room)
+      where
+        by : (b : Bool) → cond b verdict.Accepted (verdict.Refused OutputTooSmall) ≡ cond b (reading s) (turnedAway OutputTooSmall) .verdict
+        by true = sym f
+        by false = refl
+    texts-verdict (verdict.Refused r) f = sym f ∙ ap (λ (y : Reading). y .verdict) (read-refused s room refl f)
+
+    same-verdict : recordVerdict s words room ≡ x .verdict
+    unfolding recordVerdict roomFor decided
+    same-verdict =
+        simp (le-leb 906 words h) (texts-verdict (reading s .verdict) refl) ∙ ap (λ (y : Reading). y .verdict) (sym e)
+
+    pub enough-number : {k : ℕ} → k ≡ verdictNumber (x .verdict) → k ≡ verdictNumber (recordVerdict s words room)
+    enough-number g = g ∙ ap verdictNumber (sym same-verdict)
+
+    pub enough-texts : (ys d : List ℕ) {z : List ℕ} → z ≡ holding (x .verdict) ys d → z ≡ holding (recordVerdict s words room) ys d
+    enough-texts ys d g = g ∙ ap (λ (v : Verdict). holding v ys d) (sym same-verdict)
+
+    pub enough-words : (d : List ℕ) {z : List ℕ} → z ≡ holding (x .verdict) (recordWords (x .made)) d
+        → z ≡ holding (recordVerdict s words room) (recordWords (reading s .made)) d
+    unfolding readingIn
+    enough-words d g = g ∙ by (leb (length (textsIn s)) room) e ∙ ap (λ (v : Verdict). holding v (recordWords (reading s .made)) d) (sym same-verdict)
+      where
+        by : (b : Bool) → x ≡ cond b (reading s) (turnedAway OutputTooSmall)
+            → holding (x .verdict) (recordWords (x .made)) d ≡ holding (x .verdict) (recordWords (reading s .made)) d
+        by true f = ap (λ (y : Reading). holding (x .verdict) (recordWords (y .made)) d) f
+        by false f =
+            ap (λ (y : Reading). holding (y .verdict) (recordWords (x .made)) d) f
+            ∙ sym (ap (λ (y : Reading). holding (y .verdict) (recordWords (reading s .made)) d) f)
+
+pub ruleset record-read = (few-number, few-kept, enough-number, enough-texts, enough-words)
 
 -- ---- words for a record
 module _ (w : List ℕ) where
-  pub words-short : length w < 393 → false ≡ wordsValid w
+  pub words-short : length w < 906 → false ≡ wordsValid w
   unfolding wordsValid
-  words-short h = simp (lt-leb 393 (length w) h)
+  words-short h = simp (lt-leb 906 (length w) h)
 
-  pub words-asked : {b : Bool} → 393 ≤ length w → b ≡ fieldsFit w → b ≡ wordsValid w
+  pub words-asked : {b : Bool} → 906 ≤ length w → b ≡ fieldsFit w → b ≡ wordsValid w
   unfolding wordsValid
-  words-asked h e = simp (le-leb 393 (length w) h, e)
+  words-asked h e = simp (le-leb 906 (length w) h, e)
 
   module _ {b : Bool} (e : b ≡ wordsValid w) (f : not b ≡ false) where
-    both : (leb 393 (length w) ≡ true) × (fieldsFit w ≡ true)
+    both : (leb 906 (length w) ≡ true) × (fieldsFit w ≡ true)
     unfolding wordsValid
-    both = and-both (leb 393 (length w)) (fieldsFit w) (sym e ∙ not-false b f)
+    both = and-both (leb 906 (length w)) (fieldsFit w) (sym e ∙ not-false b f)
 
-    pub words-enough : 393 ≤ length w
-    words-enough = leb-true 393 (length w) (both .0)
+    pub words-enough : 906 ≤ length w
+    words-enough = leb-true 906 (length w) (both .0)
 
     pub words-fit : fieldsFit w ≡ true
     words-fit = both .1
 
-  module _ (s : List ℕ) (room : ℕ) {b : Bool} (e : b ≡ wordsValid w) where
+  module _ (t s : List ℕ) (room : ℕ) {b : Bool} (e : b ≡ wordsValid w) where
     module _ (f : not b ≡ true) where
-      unfit : wordsWriting w s room ≡ written.Refused FormatWrong
+      unfit : wordsWriting w t s room ≡ written.Refused FormatWrong
       unfolding wordsWriting
-      unfit = ap (λ (c : Bool). cond c (writing (recordFrom w) s room) (written.Refused FormatWrong)) (sym e ∙ not-true b f)
+      unfit = ap (λ (c : Bool). cond c (writing (recordFrom w) t s room) (written.Refused FormatWrong)) (sym e ∙ not-true b f)
 
-      pub words-refused : {y : Answer} → y ≡ refusedBy FormatWrong → y ≡ ofWritten (wordsWriting w s room)
+      pub words-refused : {y : Answer} → y ≡ refusedBy FormatWrong → y ≡ ofWritten (wordsWriting w t s room)
       words-refused g = g ∙ ap ofWritten (sym unfit)
 
-      pub words-left : (ys d : List ℕ) → d ≡ holding (writtenVerdict (wordsWriting w s room)) ys d
+      pub words-left : (ys d : List ℕ) → d ≡ holding (writtenVerdict (wordsWriting w t s room)) ys d
       words-left ys d = ap (λ (v : Written). holding (writtenVerdict v) ys d) (sym unfit)
 
-    module _ (f : not b ≡ false) {m : Record} (g : m ≡ recordFrom w) {x : Written} (h : x ≡ writing m s room) where
-      fit : x ≡ wordsWriting w s room
+    module _ (f : not b ≡ false) {m : Record} (g : m ≡ recordFrom w) {x : Written} (h : x ≡ writing m t s room) where
+      fit : x ≡ wordsWriting w t s room
       unfolding wordsWriting
       fit =
           h
-          ∙ ap (λ (r : Record). writing r s room) g
-          ∙ ap (λ (c : Bool). cond c (writing (recordFrom w) s room) (written.Refused FormatWrong)) (sym (not-false b f) ∙ e)
+          ∙ ap (λ (r : Record). writing r t s room) g
+          ∙ ap (λ (c : Bool). cond c (writing (recordFrom w) t s room) (written.Refused FormatWrong)) (sym (not-false b f) ∙ e)
 
-      pub words-told : {y : Answer} → y ≡ ofWritten x → y ≡ ofWritten (wordsWriting w s room)
+      pub words-told : {y : Answer} → y ≡ ofWritten x → y ≡ ofWritten (wordsWriting w t s room)
       words-told k = k ∙ ap ofWritten fit
 
-      pub words-held : (d : List ℕ) {z : List ℕ} → z ≡ holding (writtenVerdict x) (fileOf m s) d
-          → z ≡ holding (writtenVerdict (wordsWriting w s room)) (fileOf (recordFrom w) s) d
-      words-held d k = k ∙ (λ i. holding (writtenVerdict (fit i)) (fileOf (g i) s) d)
+      pub words-held : (d : List ℕ) {z : List ℕ} → z ≡ holding (writtenVerdict x) (fileOf m t s) d
+          → z ≡ holding (writtenVerdict (wordsWriting w t s room)) (fileOf (recordFrom w) t s) d
+      words-held d k = k ∙ (λ i. holding (writtenVerdict (fit i)) (fileOf (g i) t s) d)
 
 pub ruleset wording = (words-short, words-asked, words-enough, words-fit, words-refused, words-left, words-told, words-held)

@@ -1,9 +1,10 @@
 -- The promises of the C functions, from the clauses of their contracts: the number of an answer is the operation's. And they leave one
 -- answer and one content of each buffer. Assumes nothing.
 use mathlib.Core.Path.{_≡_, refl, sym, ap, _∙_}
-use mathlib.Core.Bool.{Bool, true, false, cond}
+use mathlib.Core.Bool.{Bool, true, false, not, cond}
 use mathlib.Core.List.{List, [], _∷_}
 use Prim.Native.Nat.{ℕ}
+use lib.Dec.{leb}
 use lib.IntN.{ℤ}
 use lib.ListN.{length}
 use Rattle.little.specs.Writing.{holding}
@@ -15,7 +16,7 @@ use Rattle.units.specs.declared.Verdict.the-variants as verdict
 use Rattle.units.specs.Refusals.{verdictNumber}
 use Rattle.units.specs.Checks.{numberBy, numberOr}
 use Rattle.units.proofs.Checks.{number-row, number-then}
-use Rattle.reader.specs.Content.{reading, soundIn, soundStart}
+use Rattle.reader.specs.Content.{reading, soundIn, soundStart, textsIn}
 use Rattle.writer.specs.declared.Written.{Written}
 use Rattle.writer.specs.declared.Written.the-variants as written
 use Rattle.writer.specs.File.{fileOf, writing, writtenVerdict, writtenNumber}
@@ -40,7 +41,7 @@ use Rattle.side.proofs.Rows as side-proofs
 use Rattle.words.specs.Words.{recordWords, recordFrom}
 use Rattle.wave_c.specs.declared.Answer.{Answer}
 use Rattle.wave_c.specs.declared.CodedAnswer.{CodedAnswer}
-use Rattle.wave_c.specs.Interface.{answerBy, ofWritten, ofDecoded, ofEncoded, enough, readVerdict, wordsValid, wordsWriting}
+use Rattle.wave_c.specs.Interface.{answerBy, ofWritten, ofDecoded, ofEncoded, enough, readVerdict, roomFor, recordVerdict, wordsValid, wordsWriting}
 use Rattle.wave_c.specs.Promise.{readNumber, CRead, CSound, CWrite, CDecode, CBlock, CEncode, CEmpty, CAdd, OneEach}
 
 -- ---- the number of an answer is that of the operation
@@ -64,21 +65,29 @@ read-row : (n : ℕ) (s : List ℕ) (room : ℕ) → verdictNumber (readVerdict 
 unfolding readVerdict enough numberBy
 read-row n s room = number-then (reading s .verdict) (enough n room) ∙ ap (numberOr (reading s .verdict)) (number-row _)
 
-words-row : (w s : List ℕ) (room : ℕ) → writtenNumber (wordsWriting w s room) ≡ cond (wordsValid w) (writeNumber (recordFrom w) s room) 9
+words-row : (w b s : List ℕ) (room : ℕ) → writtenNumber (wordsWriting w b s room) ≡ cond (wordsValid w) (writeNumber (recordFrom w) b s room) 9
 unfolding wordsWriting WriteNumbered
-words-row w s room = by (wordsValid w)
+words-row w b s room = by (wordsValid w)
   where
-    by : (b : Bool) → writtenNumber (cond b (writing (recordFrom w) s room) (written.Refused FormatWrong)) ≡ cond b (writeNumber (recordFrom w) s room) 9
-    by true = written-proofs.numbered (recordFrom w) s room
+    by : (x : Bool) → writtenNumber (cond x (writing (recordFrom w) b s room) (written.Refused FormatWrong)) ≡ cond x (writeNumber (recordFrom w) b s room) 9
+    by true = written-proofs.numbered (recordFrom w) b s room
     by false = refl
 
 -- ---- the promises, each of the clauses of its function
 abbrev refusalOf : Answer → ℕ
 refusalOf r = r .refusal
 
-pub c-read : (s d : List ℕ) {r : ℕ} {e : List ℕ} → r ≡ verdictNumber (readVerdict 393 s (length d))
-    → e ≡ holding (readVerdict 393 s (length d)) (recordWords (reading s .made)) d → CRead s d r e
-c-read s d f g = record { answer = f; number = f ∙ read-row 393 s (length d); buffer = g }
+record-row : (s : List ℕ) (words room : ℕ)
+    → verdictNumber (recordVerdict s words room)
+    ≡ numberOr (reading s .verdict) (cond (not (leb 906 words)) 14 (cond (not (leb (length (textsIn s)) room)) 14 0))
+unfolding recordVerdict roomFor numberBy
+record-row s words room =
+    number-then (reading s .verdict) (roomFor (length (textsIn s)) words room) ∙ ap (numberOr (reading s .verdict)) (number-row _)
+
+pub c-read : (s d t : List ℕ) {r : ℕ} {e u : List ℕ} → r ≡ verdictNumber (recordVerdict s (length d) (length t))
+    → e ≡ holding (recordVerdict s (length d) (length t)) (recordWords (reading s .made)) d
+    → u ≡ holding (recordVerdict s (length d) (length t)) (textsIn s) t → CRead s d t r e u
+c-read s d t f g h = record { answer = f; number = f ∙ record-row s (length d) (length t); words = g; texts = h }
 
 pub c-sound : (s d : List ℕ) {r : Answer} {e : List ℕ} → r ≡ answerBy (readVerdict 1 s (length d)) (length (soundIn s))
     → e ≡ holding (readVerdict 1 s (length d)) (soundStart s ∷ []) d → CSound s d r e
@@ -89,10 +98,10 @@ c-sound s d f g =
       buffer = g;
     }
 
-pub c-write : (w s d : List ℕ) {r : Answer} {e : List ℕ} → r ≡ ofWritten (wordsWriting w s (length d))
-    → e ≡ holding (writtenVerdict (wordsWriting w s (length d))) (fileOf (recordFrom w) s) d → CWrite w s d r e
-c-write w s d f g =
-    record { answer = f; number = ap refusalOf f ∙ by-written (wordsWriting w s (length d)) ∙ words-row w s (length d); buffer = g }
+pub c-write : (w b s d : List ℕ) {r : Answer} {e : List ℕ} → r ≡ ofWritten (wordsWriting w b s (length d))
+    → e ≡ holding (writtenVerdict (wordsWriting w b s (length d))) (fileOf (recordFrom w) b s) d → CWrite w b s d r e
+c-write w b s d f g =
+    record { answer = f; number = ap refusalOf f ∙ by-written (wordsWriting w b s (length d)) ∙ words-row w b s (length d); buffer = g }
 
 module _ (s : List ℕ) (d : List ℤ) {r : Answer} {e : List ℤ} where
   pub c-decode : r ≡ ofDecoded (decoding s (length d)) → e ≡ holding (decodedVerdict (decoding s (length d))) (fileSound s) d → CDecode s d r e
@@ -120,14 +129,14 @@ c-encode s c a d f g =
       buffer = g;
     }
 
-pub c-empty : (channels rate : ℕ) (d : List ℕ) {r : Answer} {e : List ℕ} → r ≡ ofWritten (writing (emptySide channels rate) [] (length d))
-    → e ≡ holding (writtenVerdict (writing (emptySide channels rate) [] (length d))) (fileOf (emptySide channels rate) []) d
+pub c-empty : (channels rate : ℕ) (d : List ℕ) {r : Answer} {e : List ℕ} → r ≡ ofWritten (writing (emptySide channels rate) [] [] (length d))
+    → e ≡ holding (writtenVerdict (writing (emptySide channels rate) [] [] (length d))) (fileOf (emptySide channels rate) [] []) d
     → CEmpty channels rate d r e
 unfolding EmptyNumbered
 c-empty channels rate d f g =
     record {
       answer = f;
-      number = ap refusalOf f ∙ by-written (writing (emptySide channels rate) [] (length d)) ∙ empty-numbered channels rate (length d);
+      number = ap refusalOf f ∙ by-written (writing (emptySide channels rate) [] [] (length d)) ∙ empty-numbered channels rate (length d);
       buffer = g;
     }
 
@@ -146,9 +155,9 @@ c-add s t number limit d f g =
 pub one-each : OneEach
 unfolding OneEach
 one-each = (
+  λ s d t r r′ e e′ u u′ p q. (p .answer ∙ sym (q .answer), p .words ∙ sym (q .words), p .texts ∙ sym (q .texts)),
   λ s d r r′ e e′ p q. (p .answer ∙ sym (q .answer), p .buffer ∙ sym (q .buffer)),
-  λ s d r r′ e e′ p q. (p .answer ∙ sym (q .answer), p .buffer ∙ sym (q .buffer)),
-  λ w s d r r′ e e′ p q. (p .answer ∙ sym (q .answer), p .buffer ∙ sym (q .buffer)),
+  λ w b s d r r′ e e′ p q. (p .answer ∙ sym (q .answer), p .buffer ∙ sym (q .buffer)),
   λ s d r r′ e e′ p q. (p .answer ∙ sym (q .answer), p .buffer ∙ sym (q .buffer)),
   λ s k d r r′ e e′ p q. (p .answer ∙ sym (q .answer), p .buffer ∙ sym (q .buffer)),
   λ s c a d r r′ e e′ p q. (p .answer ∙ sym (q .answer), p .buffer ∙ sym (q .buffer)),

@@ -10,7 +10,7 @@ use Rattle.units.specs.declared.Verdict.{Verdict}
 use Rattle.units.specs.declared.Verdict.the-variants as verdict
 use Rattle.units.specs.Refusals.{numberOf}
 use Rattle.units.specs.Checks.{check, decided, andThen}
-use Rattle.reader.specs.Content.{reading}
+use Rattle.reader.specs.Content.{reading, textsIn}
 use Rattle.writer.specs.declared.Written.{Written}
 use Rattle.writer.specs.declared.Written.the-variants as written
 use Rattle.writer.specs.File.{writing}
@@ -52,16 +52,23 @@ ofEncoded (encoded.Refused r) = record { refusal = numberOf r; left = 0; right =
 unfoldable pub enough : ℕ → ℕ → Verdict
 enough n room = decided (check (leb n room) OutputTooSmall ∷ [])
 
--- the reader's refusals 1 to 13, then 14
+-- the reader's refusals 1 to 13 and 21, then 14
 unfoldable pub readVerdict : ℕ → List ℕ → ℕ → Verdict
 readVerdict n s room = andThen (reading s .verdict) (enough n room)
 
+-- the same of a record and of the texts of its titles: 14 where there is not room for both
+unfoldable pub roomFor : ℕ → ℕ → ℕ → Verdict
+roomFor texts words room = decided (check (leb 906 words) OutputTooSmall ∷ check (leb texts room) OutputTooSmall ∷ [])
+
+unfoldable pub recordVerdict : List ℕ → ℕ → ℕ → Verdict
+recordVerdict s words room = andThen (reading s .verdict) (roomFor (length (textsIn s)) words room)
+
 -- ---- writing
 
--- 393 words at least, each of which fits its field
+-- 906 words at least, each of which fits its field
 unfoldable pub wordsValid : List ℕ → Bool
-wordsValid w = leb 393 (length w) && fieldsFit w
+wordsValid w = leb 906 (length w) && fieldsFit w
 
 -- 9 for words that are not; else the record that they say is written
-unfoldable pub wordsWriting : List ℕ → List ℕ → ℕ → Written
-wordsWriting w s room = cond (wordsValid w) (writing (recordFrom w) s room) (written.Refused FormatWrong)
+unfoldable pub wordsWriting : List ℕ → List ℕ → List ℕ → ℕ → Written
+wordsWriting w b s room = cond (wordsValid w) (writing (recordFrom w) b s room) (written.Refused FormatWrong)

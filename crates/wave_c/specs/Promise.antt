@@ -12,7 +12,7 @@ use Rattle.units.specs.declared.Donation.{Donation}
 use Rattle.units.specs.declared.Frames.{Frames}
 use Rattle.units.specs.Refusals.{verdictNumber}
 use Rattle.units.specs.Checks.{numberOr}
-use Rattle.reader.specs.Content.{reading, soundIn, soundStart}
+use Rattle.reader.specs.Content.{reading, soundIn, soundStart, textsIn}
 use Rattle.writer.specs.File.{fileOf, writing, writtenVerdict}
 use Rattle.writer.specs.Promise.{writeNumber}
 use Rattle.decode.specs.Decoding.{decoding, blockDecoding, fileSound, fileBlock, decodedVerdict}
@@ -25,17 +25,19 @@ use Rattle.side.specs.Demands.{emptyNumber, addNumber}
 use Rattle.words.specs.Words.{recordWords, recordFrom}
 use Rattle.wave_c.specs.declared.Answer.{Answer}
 use Rattle.wave_c.specs.declared.CodedAnswer.{CodedAnswer}
-use Rattle.wave_c.specs.Interface.{answerBy, ofWritten, ofDecoded, ofEncoded, readVerdict, wordsValid, wordsWriting}
+use Rattle.wave_c.specs.Interface.{answerBy, ofWritten, ofDecoded, ofEncoded, readVerdict, recordVerdict, wordsValid, wordsWriting}
 
 -- the reader's number, or else 14 where a lent buffer has not n elements
 abbrev pub readNumber : ℕ → List ℕ → ℕ → ℕ
 readNumber n s room = numberOr (reading s .verdict) (cond (not (leb n room)) 14 0)
 
--- `tronalhet_read`: of a file s, with lent words that held d, the number r, and the words then are e
-pub record CRead (s d : List ℕ) (r : ℕ) (e : List ℕ) : Type 0 where
-  pub answer : r ≡ verdictNumber (readVerdict 393 s (length d))
-  pub number : r ≡ readNumber 393 s (length d)
-  pub buffer : e ≡ holding (readVerdict 393 s (length d)) (recordWords (reading s .made)) d
+-- `tronalhet_read`: of a file s, with lent words that held d and a lent buffer for texts that held t, the number r; the words then are
+-- e and the buffer holds u
+pub record CRead (s d t : List ℕ) (r : ℕ) (e u : List ℕ) : Type 0 where
+  pub answer : r ≡ verdictNumber (recordVerdict s (length d) (length t))
+  pub number : r ≡ numberOr (reading s .verdict) (cond (not (leb 906 (length d))) 14 (cond (not (leb (length (textsIn s)) (length t))) 14 0))
+  pub words : e ≡ holding (recordVerdict s (length d) (length t)) (recordWords (reading s .made)) d
+  pub texts : u ≡ holding (recordVerdict s (length d) (length t)) (textsIn s) t
 
 -- `tronalhet_sound`: the same with the number of the sound's bytes, and where they start
 pub record CSound (s d : List ℕ) (r : Answer) (e : List ℕ) : Type 0 where
@@ -43,11 +45,11 @@ pub record CSound (s d : List ℕ) (r : Answer) (e : List ℕ) : Type 0 where
   pub number : r .refusal ≡ readNumber 1 s (length d)
   pub buffer : e ≡ holding (readVerdict 1 s (length d)) (soundStart s ∷ []) d
 
--- `tronalhet_write`: of words w and a sound s; 9 for words that are no record
-pub record CWrite (w s d : List ℕ) (r : Answer) (e : List ℕ) : Type 0 where
-  pub answer : r ≡ ofWritten (wordsWriting w s (length d))
-  pub number : r .refusal ≡ cond (wordsValid w) (writeNumber (recordFrom w) s (length d)) 9
-  pub buffer : e ≡ holding (writtenVerdict (wordsWriting w s (length d))) (fileOf (recordFrom w) s) d
+-- `tronalhet_write`: of words w, the texts b of its titles and a sound s; 9 for words that are no record
+pub record CWrite (w b s d : List ℕ) (r : Answer) (e : List ℕ) : Type 0 where
+  pub answer : r ≡ ofWritten (wordsWriting w b s (length d))
+  pub number : r .refusal ≡ cond (wordsValid w) (writeNumber (recordFrom w) b s (length d)) 9
+  pub buffer : e ≡ holding (writtenVerdict (wordsWriting w b s (length d))) (fileOf (recordFrom w) b s) d
 
 -- `tronalhet_decode`, `tronalhet_decode_block`
 pub record CDecode (s : List ℕ) (d : List ℤ) (r : Answer) (e : List ℤ) : Type 0 where
@@ -68,9 +70,9 @@ pub record CEncode (s : List ℤ) (c a : ℕ) (d : List ℕ) (r : CodedAnswer) (
 
 -- `tronalhet_empty`, `tronalhet_add`
 pub record CEmpty (channels rate : ℕ) (d : List ℕ) (r : Answer) (e : List ℕ) : Type 0 where
-  pub answer : r ≡ ofWritten (writing (emptySide channels rate) [] (length d))
+  pub answer : r ≡ ofWritten (writing (emptySide channels rate) [] [] (length d))
   pub number : r .refusal ≡ emptyNumber channels rate (length d)
-  pub buffer : e ≡ holding (writtenVerdict (writing (emptySide channels rate) [] (length d))) (fileOf (emptySide channels rate) []) d
+  pub buffer : e ≡ holding (writtenVerdict (writing (emptySide channels rate) [] [] (length d))) (fileOf (emptySide channels rate) [] []) d
 
 pub record CAdd (s t : List ℕ) (number : Donation) (limit : Frames) (d : List ℕ) (r : Answer) (e : List ℕ) : Type 0 where
   pub answer : r ≡ ofWritten (adding s t number limit (length d))
@@ -83,9 +85,9 @@ OneOf {R} {A} Promise = (r r′ : R) (e e′ : List A) → Promise r e → Promi
 
 unfoldable pub OneEach : Type 0
 OneEach =
-    ((s d : List ℕ) → OneOf (CRead s d))
+    ((s d t : List ℕ) (r r′ : ℕ) (e e′ u u′ : List ℕ) → CRead s d t r e u → CRead s d t r′ e′ u′ → (r ≡ r′) × (e ≡ e′) × (u ≡ u′))
     × ((s d : List ℕ) → OneOf (CSound s d))
-    × ((w s d : List ℕ) → OneOf (CWrite w s d))
+    × ((w b s d : List ℕ) → OneOf (CWrite w b s d))
     × ((s : List ℕ) (d : List ℤ) → OneOf (CDecode s d))
     × ((s : List ℕ) (k : ℕ) (d : List ℤ) → OneOf (CBlock s k d))
     × ((s : List ℤ) (c a : ℕ) (d : List ℕ) → OneOf (CEncode s c a d))

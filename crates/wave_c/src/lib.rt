@@ -1,7 +1,7 @@
 // The C interface of the library: its operations over numbers and lent buffers, as include/tronalhet.h
 // declares them. A refusal is its number, and 0 is success.
 use riff::Spot;
-use rules::Record;
+use rules::Reading;
 use units::Donation;
 use units::Frames;
 use units::Refusal;
@@ -11,9 +11,13 @@ use wave::Encoded;
 use wave::Written;
 ghost use mathlib.Core.Path.{_≡_};
 ghost use mathlib.Core.List.{[], _∷_};
+ghost use Prim.Native.Nat.{_≤_};
 ghost use lib.ListN.{length};
+ghost use Rattle.units.specs.declared.Refusal.the-variants.{OutputTooSmall};
+ghost use Rattle.units.specs.declared.Verdict.the-variants.{Refused};
 ghost use Rattle.units.specs.Refusals.{numberOf, verdictNumber};
-ghost use Rattle.reader.specs.Content.{reading, soundIn, soundStart};
+ghost use Rattle.units.specs.Checks.{andThen};
+ghost use Rattle.reader.specs.Content.{reading, soundIn, soundStart, textsIn};
 ghost use Rattle.riff.specs.Walk.{partOf, startOf};
 ghost use Rattle.little.specs.Writing.{holding};
 ghost use Rattle.writer.specs.File.{fileOf, writing, writtenVerdict};
@@ -22,7 +26,8 @@ ghost use Rattle.encode.specs.Answer.{encoding, encodedVerdict};
 ghost use Rattle.decode.specs.Decoding.{decoding, blockDecoding, fileSound, fileBlock, decodedVerdict};
 ghost use Rattle.side.specs.Adding.{adding, newFile, emptySide};
 ghost use Rattle.words.specs.Words.{recordWords, recordFrom};
-ghost use Rattle.wave_c.specs.Interface.{refusedBy, done, ofWritten, ofDecoded, ofEncoded, answerBy, enough, readVerdict, wordsValid, wordsWriting};
+ghost use Rattle.wave_c.specs.Interface.{refusedBy, done, ofWritten, ofDecoded, ofEncoded, answerBy, enough};
+ghost use Rattle.wave_c.specs.Interface.{readVerdict, recordVerdict, wordsValid, wordsWriting};
 
 // How many bytes or frames there are, or the number of the refusal.
 #[repr(C)]
@@ -108,32 +113,54 @@ fn of_encoded(answer: Encoded) -> CodedAnswer
 
 // ---- reading
 
-// Puts the record of a file that was taken, where there is room for its words.
-fn put_record(made: Record, out: &mut [u32]) -> u32
-    ensures answer { λ r. ⌜ r ≡ verdictNumber (enough 393 (length (now (out .entry)))) ⌝ }
-    ensures buffer { λ r. ⌜ now (out .exit) ≡ holding (enough 393 (length (now (out .entry)))) (recordWords made) (now (out .entry)) ⌝ }
+// The number of a file for whose record there is no room: the reader's, or else 14.
+fn read_short(file: &[u8]) -> u32
+    ensures answer { λ r. ⌜ r ≡ verdictNumber (andThen (reading (now (file .entry)) .verdict) (Refused OutputTooSmall)) ⌝ }
 {
-    if out.len() < words::WORDS {
-        return number_of(Refusal::OutputTooSmall);
+    let opened = reader::open(file);
+    let reading = opened.answer;
+    let verdict = reading.verdict;
+    match verdict {
+        Verdict::Refused(refusal) => number_of(refusal),
+        Verdict::Accepted => number_of(Refusal::OutputTooSmall),
     }
-    words::put_record(out, made);
-    0
 }
 
-// The record of a file, as words from the start of a lent buffer.
-#[no_mangle]
-pub extern "C" fn tronalhet_read(file: &[u8], out: &mut [u32]) -> u32
-    ensures answer { λ r. ⌜ r ≡ verdictNumber (readVerdict 393 (now (file .entry)) (length (now (out .entry)))) ⌝ }
-    ensures buffer { λ r. ⌜ now (out .exit) ≡ holding (readVerdict 393 (now (file .entry)) (length (now (out .entry))))
-        (recordWords (reading (now (file .entry)) .made)) (now (out .entry)) ⌝ }
+// Puts the record of a file that was taken, as words from the start of a lent buffer.
+fn put_reading(reading: Reading, out: &mut [u32]) -> u32
+    requires { ⌜ 906 ≤ length (now out) ⌝ }
+    ensures answer { λ r. ⌜ r ≡ verdictNumber (reading .verdict) ⌝ }
+    ensures buffer { λ r. ⌜ now (out .exit) ≡ holding (reading .verdict) (recordWords (reading .made)) (now (out .entry)) ⌝ }
 {
-    let reading = wave::read(file);
     let verdict = reading.verdict;
     let made = reading.made;
     match verdict {
         Verdict::Refused(refusal) => number_of(refusal),
-        Verdict::Accepted => put_record(made, out),
+        Verdict::Accepted => {
+            words::put_record(out, made);
+            0
+        }
     }
+}
+
+// The record of a file, as words from the start of a lent buffer, and the texts of its titles, from the start
+// of another. Neither is touched where there is not room for both.
+#[no_mangle]
+pub extern "C" fn tronalhet_read(file: &[u8], out: &mut [u32], texts: &mut [u8]) -> u32
+    ensures answer { λ r. ⌜ r ≡ verdictNumber
+        (recordVerdict (now (file .entry)) (length (now (out .entry))) (length (now (texts .entry)))) ⌝ }
+    ensures words { λ r. ⌜ now (out .exit)
+        ≡ holding (recordVerdict (now (file .entry)) (length (now (out .entry))) (length (now (texts .entry))))
+        (recordWords (reading (now (file .entry)) .made)) (now (out .entry)) ⌝ }
+    ensures texts { λ r. ⌜ now (texts .exit)
+        ≡ holding (recordVerdict (now (file .entry)) (length (now (out .entry))) (length (now (texts .entry))))
+        (textsIn (now (file .entry))) (now (texts .entry)) ⌝ }
+{
+    if out.len() < words::WORDS {
+        return read_short(file);
+    }
+    let reading = wave::read(file, texts);
+    put_reading(reading, out)
 }
 
 // Where a chunk's data start; of a missing chunk, nowhere.
@@ -189,20 +216,26 @@ fn words_valid(given: &[u32]) -> bool
     words::fields_fit(given)
 }
 
-// Writes a file of a record, which comes as words, and its sound.
+// Writes a file of a record, which comes as words, the texts of its titles, and its sound.
 #[no_mangle]
-pub extern "C" fn tronalhet_write(given: &[u32], sound: &[u8], out: &mut [u8]) -> Answer
-    ensures answer { λ r. ⌜ r ≡ ofWritten (wordsWriting (now (given .entry)) (now (sound .entry)) (length (now (out .entry)))) ⌝ }
-    ensures buffer { λ r. ⌜ now (out .exit)
-        ≡ holding (writtenVerdict (wordsWriting (now (given .entry)) (now (sound .entry)) (length (now (out .entry)))))
-        (fileOf (recordFrom (now (given .entry))) (now (sound .entry))) (now (out .entry)) ⌝ }
+pub extern "C" fn tronalhet_write(
+    given: &[u32],
+    texts: &[u8],
+    sound: &[u8],
+    out: &mut [u8],
+) -> Answer
+    ensures answer { λ r. ⌜ r
+        ≡ ofWritten (wordsWriting (now (given .entry)) (now (texts .entry)) (now (sound .entry)) (length (now (out .entry)))) ⌝ }
+    ensures buffer { λ r. ⌜ now (out .exit) ≡ holding
+        (writtenVerdict (wordsWriting (now (given .entry)) (now (texts .entry)) (now (sound .entry)) (length (now (out .entry)))))
+        (fileOf (recordFrom (now (given .entry))) (now (texts .entry)) (now (sound .entry))) (now (out .entry)) ⌝ }
 {
     let valid = words_valid(given);
     if !valid {
         return turned_away(Refusal::FormatWrong);
     }
     let made = words::record_from(given);
-    let answer = wave::write(made, sound, out);
+    let answer = wave::write(made, texts, sound, out);
     of_written(answer)
 }
 
@@ -253,10 +286,10 @@ pub extern "C" fn tronalhet_encode(
 // Writes a side without songs.
 #[no_mangle]
 pub extern "C" fn tronalhet_empty(channels: u16, rate: u32, out: &mut [u8]) -> Answer
-    ensures answer { λ r. ⌜ r ≡ ofWritten (writing (emptySide channels rate) [] (length (now (out .entry)))) ⌝ }
+    ensures answer { λ r. ⌜ r ≡ ofWritten (writing (emptySide channels rate) [] [] (length (now (out .entry)))) ⌝ }
     ensures buffer { λ r. ⌜ now (out .exit)
-        ≡ holding (writtenVerdict (writing (emptySide channels rate) [] (length (now (out .entry)))))
-        (fileOf (emptySide channels rate) []) (now (out .entry)) ⌝ }
+        ≡ holding (writtenVerdict (writing (emptySide channels rate) [] [] (length (now (out .entry)))))
+        (fileOf (emptySide channels rate) [] []) (now (out .entry)) ⌝ }
 {
     let answer = wave::empty(channels, rate, out);
     of_written(answer)
