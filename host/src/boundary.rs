@@ -18,13 +18,22 @@ pub struct CodedAnswer {
 }
 
 extern "C" {
-    pub fn tronalhet_read(file: *const u8, file_bytes: usize, record: *mut u32, record_words: usize) -> u32;
+    pub fn tronalhet_read(
+        file: *const u8,
+        file_bytes: usize,
+        record: *mut u32,
+        record_words: usize,
+        titles: *mut u8,
+        title_bytes: usize,
+    ) -> u32;
 
     pub fn tronalhet_sound(file: *const u8, file_bytes: usize, start: *mut usize, starts: usize) -> Answer;
 
     pub fn tronalhet_write(
         record: *const u32,
         record_words: usize,
+        titles: *const u8,
+        title_bytes: usize,
         sound: *const u8,
         sound_bytes: usize,
         out: *mut u8,

@@ -31,7 +31,8 @@ fn around_silence(record: &Record, sound_bytes: usize) -> Result<(Room<u8>, Rang
     Ok((file, place))
 }
 
-/// A file's sound as a file of 16-bit PCM, with its cues and its playlist; their places are frames, so they stay true.
+/// A file's sound as a file of 16-bit PCM, with its cues, its playlist and its titles; places are frames, so they stay
+/// true.
 pub fn sixteen_bit(file: &[u8]) -> Result<(Room<u8>, Frames), Fault> {
     let old = read(file)?;
     let frames = old.frames;
@@ -44,7 +45,7 @@ pub fn sixteen_bit(file: &[u8]) -> Result<(Room<u8>, Frames), Fault> {
     Ok((made, frames))
 }
 
-/// The approval copy of a file, in IMA blocks of `align` bytes. It has no cues and no playlist.
+/// The approval copy of a file, in IMA blocks of `align` bytes. It has no cues, and so no playlist and no titles.
 pub fn approval_copy(file: &[u8], align: u16) -> Result<ApprovalCopy, Fault> {
     let old = read(file)?;
     let (frames, Format { channels, rate, .. }) = (old.frames, old.format);

@@ -35,7 +35,7 @@ mod units;
 pub use copies::{approval_copy, sixteen_bit, ApprovalCopy};
 pub use operations::{add, decode, decode_block, empty_side, encode, read, sound_of, sound_place, write, Coded, Fault};
 pub use parts::check_sound;
-pub use record::{Cue, Format, Play, Record};
+pub use record::{Cue, Format, Play, Record, Title, TitleKind};
 pub use room::{NoMemory, Number, Room};
 pub use songs::same_sound;
 pub use units::{BytePlace, Donation, Frames, Refusal};
@@ -45,3 +45,6 @@ pub const MOST_BYTES: usize = 1 << 30;
 
 /// The most samples that are encoded, over all channels.
 pub const MOST_SAMPLES: usize = 1 << 29;
+
+/// The most bytes of a title's text.
+pub const MOST_TEXT: usize = 255;

@@ -1,6 +1,6 @@
 //! The operations of the proved library on slices, with rooms of the right length for what they make.
 use crate::boundary;
-use crate::record::{Format, Record, Words, MOST_ENTRIES};
+use crate::record::{Format, Record, Words, MOST_TEXTS, WORDS};
 use crate::room::{NoMemory, Room};
 use crate::units::{Donation, Frames, Refusal};
 use crate::MOST_BYTES;
@@ -49,15 +49,26 @@ fn judged(number: u32) -> Result<(), Refusal> {
     if number == 0 {
         return Ok(());
     }
-    Err(Refusal::from_number(number).expect("a refusal of the library has one of its twenty numbers"))
+    Err(Refusal::from_number(number).expect("a refusal of the library has one of its 21 numbers"))
 }
 
-/// The record of a file.
+/// The record of a file. There is room for the texts of any.
 pub fn read(file: &[u8]) -> Result<Record, Refusal> {
-    let mut words: Words = [0; 9 + 6 * MOST_ENTRIES];
-    // SAFETY: both buffers are slices with their lengths; `words` is borrowed by nobody else.
-    judged(unsafe { boundary::tronalhet_read(file.as_ptr(), file.len(), words.as_mut_ptr(), words.len()) })?;
-    Ok(Record::from_words(&words))
+    let mut words: Words = [0; WORDS];
+    let mut texts = [0; MOST_TEXTS];
+    // SAFETY: all three are slices with their lengths; `words` and `texts` are borrowed by nobody else.
+    let number = unsafe {
+        boundary::tronalhet_read(
+            file.as_ptr(),
+            file.len(),
+            words.as_mut_ptr(),
+            words.len(),
+            texts.as_mut_ptr(),
+            texts.len(),
+        )
+    };
+    judged(number)?;
+    Ok(Record::from_words(&words, &texts))
 }
 
 /// Where the sound of a file stands in it.
@@ -76,12 +87,21 @@ pub fn sound_of(file: &[u8]) -> Result<&[u8], Refusal> {
 
 /// The file of a record and its sound data.
 pub fn write(record: &Record, sound: &[u8]) -> Result<Room<u8>, Fault> {
-    let words = record.words();
+    let (words, texts) = record.words();
     // A longer file than may be is refused before anything is put, so no more room is ever wanted.
     let mut out = Room::new(record.file_bytes(sound.len()).min(MOST_BYTES))?;
-    // SAFETY: all three are slices with their lengths, and `out` is borrowed by nobody else.
+    // SAFETY: all four are slices with their lengths, and `out` is borrowed by nobody else.
     let answer = unsafe {
-        boundary::tronalhet_write(words.as_ptr(), words.len(), sound.as_ptr(), sound.len(), out.as_mut_ptr(), out.len())
+        boundary::tronalhet_write(
+            words.as_ptr(),
+            words.len(),
+            texts.as_ptr(),
+            texts.len(),
+            sound.as_ptr(),
+            sound.len(),
+            out.as_mut_ptr(),
+            out.len(),
+        )
     };
     judged(answer.refusal)?;
     out.shorten(answer.n);
@@ -176,8 +196,9 @@ pub fn empty_side(channels: u16, rate: u32) -> Result<Room<u8>, Fault> {
 
 /// A side with one song more, which may then have so many frames as `limit` says.
 pub fn add(side: &[u8], song: &[u8], number: Donation, limit: Frames) -> Result<Room<u8>, Fault> {
-    // The first song of a side brings two tables, 60 bytes with its entries; its file has 44 beside the sound.
-    // A longer file than may be is refused before anything is put.
+    // The first song of a side brings two tables, 60 bytes with its entries; its file has 44 beside the sound. A later
+    // one brings 36, and there the list of titles may gain a pad. A longer file than may be is refused before anything
+    // is put.
     let mut out = Room::new((side.len() + song.len() + 16).min(MOST_BYTES))?;
     // SAFETY: all three are slices with their lengths, and `out` is borrowed by nobody else.
     let answer = unsafe {

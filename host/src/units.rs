@@ -37,10 +37,11 @@ pub enum Refusal {
     AlreadyListed,
     NotASide,
     NoSuchBlock,
+    TitlesWrong,
 }
 
 /// All refusals, by their numbers from 1 on.
-const ALL: [Refusal; 20] = [
+const ALL: [Refusal; 21] = [
     Refusal::LengthOutOfRange,
     Refusal::NotWave,
     Refusal::RiffSizeWrong,
@@ -61,6 +62,7 @@ const ALL: [Refusal; 20] = [
     Refusal::AlreadyListed,
     Refusal::NotASide,
     Refusal::NoSuchBlock,
+    Refusal::TitlesWrong,
 ];
 
 impl Refusal {
@@ -99,6 +101,6 @@ mod tests {
             assert!(!refusal.meaning().is_empty());
         }
         assert_eq!(include_str!("../meanings").lines().count(), ALL.len());
-        assert_eq!((Refusal::from_number(0), Refusal::from_number(21)), (None, None));
+        assert_eq!((Refusal::from_number(0), Refusal::from_number(22)), (None, None));
     }
 }
