@@ -5,7 +5,7 @@ use crate::shown::{print, Json};
 use crate::stop::{shown, Stop};
 use crate::{eprint, TROUBLE};
 use std::ffi::OsStr;
-use tronalhet::places::{Code, Place};
+use tronalhet::places::{LeftOut, Place};
 use tronalhet::Refusal;
 
 /// What was done: lines for people, the same for scripts, and what a person should know besides.
@@ -40,18 +40,12 @@ impl Told {
     }
 
     /// The chunks of each file that the new one does not have.
-    pub fn without(mut self, files: &[(&OsStr, Vec<(Code, usize)>)]) -> Told {
+    pub fn without(mut self, files: &[(&OsStr, Vec<LeftOut>)]) -> Told {
         let mut all = vec![];
         for (name, kinds) in files.iter().filter(|(_, kinds)| !kinds.is_empty()) {
             let words: Vec<String> = kinds.iter().map(kind_in_words).collect();
             self.remarks.push(format!("{}: left out: {}", shown(name), words.join(", ")));
-            all.extend(kinds.iter().map(|(code, count)| {
-                Json::Object(vec![
-                    ("file", text(name)),
-                    ("chunk", Json::Text(code.to_string())),
-                    ("count", Json::Number(*count as u64)),
-                ])
-            }));
+            all.extend(kinds.iter().map(|kind| kind_for_scripts(name, kind)));
         }
         self.with("left_out", Json::List(all))
     }
@@ -62,11 +56,21 @@ pub fn text(name: &OsStr) -> Json {
     Json::Text(name.to_string_lossy().into())
 }
 
-fn kind_in_words((code, count): &(Code, usize)) -> String {
+fn kind_in_words(LeftOut { code, in_titles, count }: &LeftOut) -> String {
+    let within = if *in_titles { " of the list of titles" } else { "" };
     match count {
-        1 => format!("chunk '{code}'"),
-        _ => format!("{count} chunks '{code}'"),
+        1 => format!("chunk '{code}'{within}"),
+        _ => format!("{count} chunks '{code}'{within}"),
     }
+}
+
+fn kind_for_scripts(file: &OsStr, kind: &LeftOut) -> Json {
+    let mut fields = vec![("file", text(file)), ("chunk", Json::Text(kind.code.to_string()))];
+    if kind.in_titles {
+        fields.push(("list", Json::Text("adtl".into())));
+    }
+    fields.push(("count", Json::Number(kind.count as u64)));
+    Json::Object(fields)
 }
 
 /// Prints an answer about a file, and then on standard error where the fault is, what it means and the way out of it;

@@ -7,15 +7,11 @@ use crate::shown::Json;
 use crate::stop::{counted, shown, Stop};
 use crate::writing::Target;
 use std::ffi::{OsStr, OsString};
-use tronalhet::places::{left_out, of_adding, way_out_of_adding, Which};
+use tronalhet::places::{left_out, of_adding, way_out_of_adding, Kept, Which};
 use tronalhet::{Donation, Fault, Frames, Record, Refusal};
 
 /// How many bytes a block of an approval copy has where nothing else is said.
 const USUAL_ALIGN: u32 = 1024;
-
-/// The chunks that a new file says again: those of the sound, and the two tables beside it.
-const SOUND: &[&[u8; 4]] = &[b"fmt ", b"fact", b"data"];
-const ALL: &[&[u8; 4]] = &[b"fmt ", b"fact", b"data", b"cue ", b"plst"];
 
 /// Runs a command; its exit status, of several files that of the first that is not accepted.
 pub fn run(call: &Call) -> u8 {
@@ -124,7 +120,7 @@ fn decode(from: &OsStr, to: &OsStr, call: &Call) -> Answer {
     let file = whole(from)?;
     let (made, frames) = tronalhet::sixteen_bit(&file).map_err(|fault| Stop::of_file(from, &file, fault))?;
     let told = Told::facts(&[("frames", frames.0 as usize), ("bytes", made.len())]);
-    write(&target, to, &made, false, told.without(&[(from, left_out(&file, ALL))]))
+    write(&target, to, &made, false, told.without(&[(from, left_out(&file, Kept::All))]))
 }
 
 fn encode(from: &OsStr, to: &OsStr, call: &Call) -> Answer {
@@ -138,7 +134,7 @@ fn encode(from: &OsStr, to: &OsStr, call: &Call) -> Answer {
         ("chased_left", copy.left.0 as usize),
         ("chased_right", copy.right.0 as usize),
     ]);
-    write(&target, to, &copy.file, false, told.without(&[(from, left_out(&file, SOUND))]))
+    write(&target, to, &copy.file, false, told.without(&[(from, left_out(&file, Kept::Sound))]))
 }
 
 /// Why there is no copy: where the format of a file is accepted, 9 is said of the align.
@@ -256,7 +252,8 @@ fn added(adding: &Adding, side: &[u8], song: &[u8], made: &[u8]) -> Result<Told,
         ("frames", (after.frames.0 - before.frames.0) as usize),
         ("frames_left", (adding.limit.0 - after.frames.0) as usize),
     ]);
-    let mut told = told.without(&[(adding.side, left_out(side, ALL)), (adding.song, left_out(song, SOUND))]);
+    let without = [(adding.side, left_out(side, Kept::All)), (adding.song, left_out(song, Kept::Sound))];
+    let mut told = told.without(&without);
     let songs = tronalhet::read(song)?.playlist.len();
     if songs > 0 {
         let list = counted(songs as u64, "entry", "entries");

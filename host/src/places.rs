@@ -19,11 +19,12 @@ mod lines;
 mod tables;
 #[cfg(test)]
 mod tests;
+mod titles;
 mod way_out;
 
 pub use adding::{of_adding, way_out_of_adding, Which};
 pub use chunks::Code;
-pub use left_out::left_out;
+pub use left_out::{left_out, Kept, LeftOut};
 pub use lines::is_plain;
 pub use way_out::way_out;
 
@@ -101,6 +102,7 @@ pub fn of_file(refusal: Refusal, file: &[u8]) -> Option<Place> {
         Refusal::FactWrong => format::fact(file),
         Refusal::CuesWrong => tables::cues(file),
         Refusal::PlaylistWrong => tables::playlist(file),
+        Refusal::TitlesWrong => titles::fault(file),
         Refusal::BlockHeaderWrong => block_header(file),
         _ => None,
     }
@@ -168,8 +170,7 @@ fn second(file: &[u8]) -> Option<Place> {
 }
 
 fn wave_list(file: &[u8]) -> Option<Place> {
-    let list = |chunk: &Chunk| &chunk.code.0 == b"LIST" && chunk.data(file).starts_with(b"wavl");
-    let chunk = chunks(file).flatten().find(list)?;
+    let chunk = chunks(file).flatten().find(|chunk| chunk.is_list(file, b"wavl"))?;
     Some(chunk.field_fault(Field("list type", 0, 4), "it is 'wavl', a list of pieces of sound".into()))
 }
 

@@ -12,7 +12,8 @@ use tronalhet::{Refusal, Room, MOST_BYTES};
 /// A file up to this length is read whole, which is as quick.
 const SHORT: usize = 1 << 16;
 
-/// A chunk's head, and more of its data than reading ever looks at: a table of 64 cues has 1,540 bytes.
+/// A chunk's head, and more of its data than reading ever looks at: a table of 64 cues has 1,540 bytes. Only a list of
+/// titles is read whole.
 const LOOKED_AT: usize = 4096;
 
 /// How much is read on where chunks are so short that one follows in what was read.
@@ -152,19 +153,48 @@ fn heads_of(name: &OsStr, opened: &Opened, size: usize) -> Result<Room<u8>, Stop
 /// Reads the head of a file and the start of each chunk to where they stand. Reading goes from chunk to chunk and looks
 /// no further into one, so to it this is the whole file; what is left out takes no time and no memory.
 fn heads(file: &File, start: u64, room: &mut [u8]) -> io::Result<()> {
-    let (mut next, mut there) = (0, 0);
-    while next < room.len() {
-        if there < room.len().min(next + LOOKED_AT) {
-            let (from, more) = if next < there { (there, AHEAD) } else { (next, LOOKED_AT) };
-            there = room.len().min(from + more);
-            file.read_exact_at(&mut room[from..there], start + from as u64)?;
-        }
-        if !room.starts_with(b"RIFF") {
+    let mut heads = Heads { file, start, room, there: 0 };
+    let mut next = 0;
+    while next < heads.room.len() {
+        heads.read(next, next + LOOKED_AT)?;
+        if !heads.room.starts_with(b"RIFF") {
             return Ok(());
         }
-        next = if next == 0 { 12 } else { next_chunk(room, next) };
+        let here = next;
+        next = if here == 0 { 12 } else { next_chunk(heads.room, here) };
+        if is_title_list(heads.room, here) {
+            heads.read(here, next)?;
+        }
     }
     Ok(())
+}
+
+/// A file that is read into a room as long as it is.
+struct Heads<'a> {
+    file: &'a File,
+    start: u64,
+    room: &'a mut [u8],
+    /// Up to here the room has what was read last.
+    there: usize,
+}
+
+impl Heads<'_> {
+    /// Reads from a place up to another, but for what is there already; and on where one chunk follows another.
+    fn read(&mut self, next: usize, end: usize) -> io::Result<()> {
+        let end = end.min(self.room.len());
+        if self.there >= end {
+            return Ok(());
+        }
+        let (from, more) = if next < self.there { (self.there, AHEAD) } else { (next, LOOKED_AT) };
+        self.there = end.max(from + more).min(self.room.len());
+        self.file.read_exact_at(&mut self.room[from..self.there], self.start + from as u64)
+    }
+}
+
+/// Whether the chunk at a place is a list of titles.
+fn is_title_list(room: &[u8], at: usize) -> bool {
+    let there = |at: usize, code: &[u8]| room.get(at..at + 4) == Some(code);
+    there(at, b"LIST") && there(at + 8, b"adtl")
 }
 
 /// Where the chunk after the one at a place starts; past the end where there is none, as after a chunk without its pad.
@@ -212,6 +242,23 @@ mod tests {
         assert!(zero(LOOKED_AT + AHEAD, 200_020));
         assert_eq!(room[200_020..200_044 + LOOKED_AT], file[200_020..200_044 + LOOKED_AT]);
         assert!(zero(200_020 + LOOKED_AT + AHEAD, file.len()));
+    }
+
+    #[test]
+    fn a_list_of_titles_is_read_whole() {
+        let long = chunk(b"junk", &[1; 199_999]);
+        for size in [1, LOOKED_AT - 12, LOOKED_AT - 11, LOOKED_AT + AHEAD, 299_999] {
+            let list = chunk(b"LIST", &[&b"adtl"[..], &vec![3; size]].concat());
+            let file = [b"RIFF....WAVE".to_vec(), long.clone(), list.clone(), long.clone(), list.clone()].concat();
+            let room = glanced(&file);
+            let second = file.len() - list.len();
+            assert_eq!(room[200_020..200_020 + list.len()], list);
+            assert_eq!(room[second..], list);
+            assert!(room[second - 100_000..second].iter().all(|byte| *byte == 0));
+            // A list that says more than the file has is read to the end.
+            let cut = &file[..file.len() - list.len() / 2];
+            assert_eq!(glanced(cut)[second..], cut[second..]);
+        }
     }
 
     #[test]

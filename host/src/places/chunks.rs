@@ -59,6 +59,11 @@ impl Chunk {
         &file[self.start()..file.len().min(self.end())]
     }
 
+    /// Whether it is a list of a type.
+    pub fn is_list(&self, file: &[u8], kind: &[u8; 4]) -> bool {
+        &self.code.0 == b"LIST" && self.data(file).starts_with(kind)
+    }
+
     /// A fault of the chunk as a whole.
     pub fn fault(&self, what: String) -> Place {
         Place { chunk: Some(self.code), byte: Some(BytePlace(self.at)), what, ..Place::default() }
@@ -84,24 +89,38 @@ pub enum Passing {
 
 /// The chunks of a file, up to its end or to what passes it.
 pub fn chunks(file: &[u8]) -> impl Iterator<Item = Result<Chunk, Passing>> + '_ {
-    let mut next = 12;
+    chunks_from(file, 12)
+}
+
+/// The chunks of a list that fits into the file, up to the list's end or to what passes it.
+pub fn chunks_in<'a>(file: &'a [u8], list: &Chunk) -> impl Iterator<Item = Result<Chunk, Passing>> + 'a {
+    chunks_from(&file[..list.end()], list.start() + 4)
+}
+
+/// The chunks of some bytes from a place on.
+fn chunks_from(bytes: &[u8], mut next: usize) -> impl Iterator<Item = Result<Chunk, Passing>> + '_ {
     std::iter::from_fn(move || {
-        if next >= file.len() {
+        if next >= bytes.len() {
             return None;
         }
         let here = next;
-        next = file.len();
-        if file.len() - here < 8 {
+        next = bytes.len();
+        if bytes.len() - here < 8 {
             return Some(Err(Passing::Header(here)));
         }
-        let chunk = Chunk { code: Code::at(file, here), at: here, size: number(file, here + 4, 4) as usize };
-        if chunk.end() > file.len() {
+        let chunk = Chunk { code: Code::at(bytes, here), at: here, size: number(bytes, here + 4, 4) as usize };
+        if chunk.end() > bytes.len() {
             return Some(Err(Passing::Chunk(chunk)));
         }
         // Past the end where the last pad is absent.
         next = chunk.end() + chunk.size % 2;
         Some(Ok(chunk))
     })
+}
+
+/// The lists of titles of a file, of which there may be one.
+pub fn title_lists(file: &[u8]) -> impl Iterator<Item = Chunk> + '_ {
+    chunks(file).flatten().filter(|chunk| chunk.is_list(file, b"adtl"))
 }
 
 /// The first chunk of a code that fits into the file.

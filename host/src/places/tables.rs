@@ -84,6 +84,12 @@ fn cue_fault(entry: &[u8], frames: u32) -> Option<(Field, String)> {
     (offset >= frames).then(|| (OFFSET, what))
 }
 
+/// The names of the cues of a file whose table was accepted.
+pub fn cue_names(file: &[u8]) -> Vec<u32> {
+    let list = find(file, b"cue ").and_then(|cues| entries(file, &cues, CUE_BYTES).ok()).unwrap_or_default();
+    list.iter().map(|entry| NAME.of(entry)).collect()
+}
+
 pub fn playlist(file: &[u8]) -> Option<Place> {
     let chunk = find(file, b"plst")?;
     let frames = frames(file)?;

@@ -137,6 +137,79 @@ fn cues_and_entries() {
     });
 }
 
+/// A title, and what its data are after the name of its cue.
+fn title(code: &str, cue: u32, text: &[u8]) -> Vec<u8> {
+    chunk(code, &[&cue.to_le_bytes(), text].concat())
+}
+
+/// A file with cue 101 and a list of titles, which starts at byte 72; the first title starts at 84.
+fn titled(inner: &[Vec<u8>]) -> Vec<u8> {
+    let list = chunk("LIST", &[b"adtl".to_vec(), inner.concat()].concat());
+    wave(&[plain(), longs("cue ", &[1, 101, 0, DATA, 0, 0, 1]), list, data(8)])
+}
+
+#[test]
+fn lists_of_titles() {
+    let (song, odd) = (title("labl", 101, b"Song\0"), title("ltxt", 101, b"a"));
+    assert_eq!(line(21, &titled(&[song[..17].to_vec()])), {
+        "chunk 'labl', size at byte 88: it is 9; the list of titles ends at byte 101, without the pad byte after it"
+    });
+    assert_eq!(line(21, &titled(&[song.clone(), odd[..13].to_vec()])), {
+        "chunk 'ltxt', size at byte 106: it is 5; the list of titles ends at byte 115, without the pad byte after it"
+    });
+    assert_eq!(line(21, &titled(&[song.clone(), odd[..12].to_vec()])), {
+        "chunk 'ltxt', size at byte 106: it is 5, up to byte 115; the list of titles ends at byte 114"
+    });
+    assert_eq!(line(21, &titled(&[song.clone(), b"labl".to_vec()])), {
+        "chunk 'LIST', byte 102: the list of titles ends at byte 106, in a chunk's header"
+    });
+    let list = chunk("LIST", b"adtl");
+    assert_eq!(line(21, &wave(&[plain(), list.clone(), data(8), list])), {
+        "chunk 'LIST', byte 64: it is the second list of titles; the first is at byte 36"
+    });
+}
+
+#[test]
+fn titles() {
+    let song = title("labl", 101, b"Song\0");
+    for (text, size) in [(&b""[..], 4), (&[b'x'; 257], 261)] {
+        assert_eq!(line(21, &titled(&[title("note", 101, text)])), {
+            format!(
+                "chunk 'note', size at byte 88: it is {size}; 5 to 260 are accepted, for a text of at most 255 bytes"
+            )
+        });
+    }
+    assert_eq!(line(21, &titled(&[song.clone(), title("note", 101, b"Song")])), {
+        "chunk 'note', cue 101, text at byte 114: its last byte, 117, is not zero"
+    });
+    assert_eq!(line(21, &titled(&[title("labl", 101, b"So\0ng\0")])), {
+        "chunk 'labl', cue 101, text at byte 96: byte 98 is zero, and only the last, byte 101, may be"
+    });
+    assert_eq!(line(21, &titled(&[title("labl", 7, b"Song\0")])), {
+        "chunk 'labl', cue 7, name at byte 92: there is no such cue"
+    });
+    assert_eq!(line(21, &titled(&[song.clone(), title("note", 101, b"\0"), song.clone()])), {
+        "chunk 'labl', cue 101, byte 116: it is the second of this cue; the first is at byte 84"
+    });
+}
+
+#[test]
+fn a_copy_without_its_titles() {
+    let way = |file: &[u8], wanted: Option<&Format>| {
+        way_out(Refusal::TitlesWrong, file, OsStr::new("a.wav"), wanted).unwrap_or_default()
+    };
+    let (song, wanted) = (titled(&[b"labl".to_vec()]), Format::sixteen_bit(2, 8000));
+    let without = "without its cues and its titles: sox --no-clobber 'a.wav'";
+    assert_eq!(way(&song, None), format!("{without} -b 16 -e signed-integer 'a-16bit.wav'"));
+    assert_eq!(way(&song, Some(&wanted)), format!("{without} -r 8000 -c 2 -b 16 -e signed-integer 'a-for-side.wav'"));
+    let side = wave(&[song[12..].to_vec(), longs("plst", &[0])]);
+    assert_eq!(way(&side, None), "use an earlier copy of the file");
+    let without = "without its cues, its playlist and its titles: ";
+    assert!(way(&side, Some(&wanted)).starts_with(without));
+    let lists = wave(&[plain(), chunk("LIST", b"adtl"), chunk("LIST", b"adtl"), data(8)]);
+    assert!(way(&lists, None).starts_with("without its titles: sox "));
+}
+
 #[test]
 fn blocks_and_channels_are_counted_from_1() {
     let mut file = wave(&[ima(), longs("fact", &[27]), data(48)]);

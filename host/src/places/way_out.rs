@@ -1,7 +1,7 @@
 //! What can be done about a refusal: a line that says how, where that is certain enough.
 //!
 //! Each command line here was tried with the programs that it calls, and what it made was accepted.
-use super::chunks::{find, find_any, Field};
+use super::chunks::{find, find_any, title_lists, Field};
 use super::ending::{ending, open_sound, Ending};
 use super::format::{self, Fmt, ALIGN, AVERAGE, A_LAW, BITS, CHANNELS, FLOAT, MP3, MU_LAW, RATE, TAG, VALID_BITS};
 use super::kinds::Kind;
@@ -13,6 +13,9 @@ use std::ffi::OsStr;
 
 /// What is done where a file has been damaged on its way.
 const ASK_AGAIN: &str = "ask for the file again";
+
+/// What is done where a file may be a side.
+const EARLIER: &str = "use an earlier copy of the file";
 
 /// The fields of `fmt ` by which a sound that is whole is refused; a wrong one of the others is damage.
 const CONVERTED: [Field; 5] = [TAG, CHANNELS, RATE, AVERAGE, BITS];
@@ -30,6 +33,9 @@ pub fn way_out(refusal: Refusal, file: &[u8], name: &OsStr, wanted: Option<&Form
         Refusal::FactWrong => source.copied("for a copy that needs no fact"),
         // A file with a playlist may be a side, which without it would be none.
         Refusal::CuesWrong if find(file, b"plst").is_none() => source.copied(""),
+        // A song that is added takes no tables along.
+        Refusal::TitlesWrong if find(file, b"plst").is_none() || wanted.is_some() => source.copied(""),
+        Refusal::TitlesWrong => Some(EARLIER.into()),
         Refusal::BlockHeaderWrong => Some(ASK_AGAIN.into()),
         _ => None,
     }
@@ -138,19 +144,22 @@ impl Source<'_> {
     fn line(&self, program: Program, purpose: &str) -> Option<String> {
         let (rate, channels) = self.changed();
         let command = converting(program, self.name, &Made { mark: self.mark(), rate, channels })?;
-        let parts = [purpose, self.lost_tables()];
-        let parts: Vec<&str> = parts.into_iter().filter(|part| !part.is_empty()).collect();
+        let lost = self.lost_tables();
+        let parts: Vec<&str> = [purpose, &lost].into_iter().filter(|part| !part.is_empty()).collect();
         let colon = if parts.is_empty() { "" } else { ": " };
         Some(format!("{}{colon}{command}", parts.join(", ")))
     }
 
     /// What the file that is made will not have.
-    fn lost_tables(&self) -> &'static str {
-        match [b"cue ", b"plst"].map(|code| find_any(self.file, code).is_some()) {
-            [true, true] => "without its cues and its playlist",
-            [true, false] => "without its cues",
-            [false, true] => "without its playlist",
-            [false, false] => "",
+    fn lost_tables(&self) -> String {
+        let there = |code| find_any(self.file, code).is_some();
+        let titles = title_lists(self.file).next().is_some();
+        let tables = [("its cues", there(b"cue ")), ("its playlist", there(b"plst")), ("its titles", titles)];
+        let lost: Vec<&str> = tables.into_iter().filter_map(|(name, there)| there.then_some(name)).collect();
+        match lost.split_last() {
+            None => String::new(),
+            Some((last, [])) => format!("without {last}"),
+            Some((last, before)) => format!("without {} and {last}", before.join(", ")),
         }
     }
 
