@@ -26,11 +26,13 @@ impl Told {
 
     /// Facts that are one number each, which is how most of what is reported looks.
     pub fn facts(facts: &[(&'static str, usize)]) -> Told {
-        Told {
-            lines: facts.iter().map(|(name, number)| format!("{} {number}", name.replace('_', " "))).collect(),
-            fields: facts.iter().map(|(name, number)| (*name, Json::Number(*number as u64))).collect(),
-            ..Told::default()
-        }
+        facts.iter().fold(Told::default(), |told, (name, number)| told.and_fact(name, *number))
+    }
+
+    /// One fact more.
+    pub fn and_fact(mut self, name: &'static str, number: usize) -> Told {
+        self.lines.push(format!("{} {number}", name.replace('_', " ")));
+        self.with(name, Json::Number(number as u64))
     }
 
     /// One field more for scripts.

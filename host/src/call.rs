@@ -10,12 +10,19 @@ use std::os::unix::ffi::OsStrExt;
 pub struct Command {
     pub name: &'static str,
     pub words: &'static [&'static str],
-    /// The last word may be given more than once.
-    many: bool,
+    last: Last,
     pub options: &'static [Choice],
     pub about: &'static str,
     /// What the help on this command and the man page say besides; may be empty.
     pub more: &'static str,
+}
+
+/// How often the last word of a command is given.
+#[derive(Clone, Copy, PartialEq, Eq)]
+enum Last {
+    Once,
+    OnceOrMore,
+    OnceOrNot,
 }
 
 /// An option.
@@ -26,12 +33,13 @@ pub struct Choice {
     pub about: &'static str,
 }
 
-/// What stands after an option: nothing, a number that is at most so large, or the name of a file.
+/// What stands after an option: nothing, a number that is at most so large, the name of a file, or any text.
 #[derive(Clone, Copy)]
 pub enum Takes {
     Nothing,
     Number(&'static str, u32),
     File(&'static str),
+    Text(&'static str),
 }
 
 const fn flag(name: &'static str, about: &'static str) -> Choice {
@@ -50,15 +58,15 @@ pub const COMMANDS: &[Command] = &[
     Command {
         name: "list",
         words: &["FILE"],
-        many: false,
+        last: Last::Once,
         options: &[JSON],
         about: "Shows what a WAVE file says, with its cues and its playlist.",
-        more: "",
+        more: "The titles of the cues are shown with --json.",
     },
     Command {
         name: "check",
         words: &["FILE"],
-        many: true,
+        last: Last::OnceOrMore,
         options: &[flag("sound", "also tests the header of every ADPCM block: refusal 15"), JSON],
         about: "Says of each file whether it is accepted. The status is that of the first that is not.",
         more: "Without --sound all is tested but the sound itself. That the header of an ADPCM block is out of range\n\
@@ -68,15 +76,15 @@ pub const COMMANDS: &[Command] = &[
     Command {
         name: "decode",
         words: &["IN", "OUT"],
-        many: false,
+        last: Last::Once,
         options: &[REPLACE, JSON],
-        about: "Writes the sound of IN as a 16-bit WAVE file, with its cues and its playlist.",
+        about: "Writes the sound of IN as a 16-bit WAVE file, with its cues, its playlist and its titles.",
         more: "",
     },
     Command {
         name: "encode",
         words: &["IN", "OUT"],
-        many: false,
+        last: Last::Once,
         options: &[
             number("align", "N", false, 65535, "bytes of a block, a multiple of 4 for each channel; 1024 if not given"),
             REPLACE,
@@ -90,7 +98,7 @@ pub const COMMANDS: &[Command] = &[
     Command {
         name: "add",
         words: &["SIDE", "SONG"],
-        many: false,
+        last: Last::Once,
         options: &[
             number("number", "N", true, u32::MAX, "the song's donation number"),
             number("limit", "FRAMES", true, u32::MAX, "the most frames that the side may have"),
@@ -111,12 +119,34 @@ pub const COMMANDS: &[Command] = &[
             JSON,
         ],
         about: "Adds a song to a side. A song that is on it already is not added again, which is no fault.",
-        more: "",
+        more: "The side keeps its titles. The song brings none: give it one by title.",
+    },
+    Command {
+        name: "title",
+        words: &["SIDE", "TEXT"],
+        last: Last::OnceOrNot,
+        options: &[
+            number("number", "N", true, u32::MAX, "the number of the cue; on a side it is the song's donation number"),
+            Choice {
+                name: "note",
+                takes: Takes::Text("TEXT"),
+                needed: false,
+                about: "sets the note of the cue, which may say more of the song",
+            },
+            flag("remove", "removes the label and the note of the cue"),
+            flag("replace", "replaces a SIDE with other hard links, which keep the old side"),
+            flag("backup", "keeps the old side as SIDE.1, SIDE.2, .., the first name that is free"),
+            JSON,
+        ],
+        about: "Gives a song of a side its title: TEXT is the label of its cue. It takes the place of the old one.",
+        more:
+            "SIDE may be any WAVE file with cues. A text has at most 255 bytes, which are stored as they are given;\n\
+               one that begins with - comes after --. list --json shows all titles.",
     },
     Command {
         name: "new-side",
         words: &["OUT"],
-        many: false,
+        last: Last::Once,
         options: &[
             number("channels", "N", true, 65535, "1 or 2"),
             number("rate", "N", true, u32::MAX, "frames a second, 1 to 192000"),
@@ -134,7 +164,7 @@ when it is whole and on the disk, and takes the place of another only where that
 A refusal is reported by its number; standard error says where it is, what it means, and a way out if there is one.
 ";
 pub const STATUS: &str = "\
-0 done, or nothing to do (18); 1 to 20 the number of the refusal; 64 a wrong call;
+0 done, or nothing to do (18); 1 to 21 the number of the refusal; 64 a wrong call;
 74 I/O error, explained on standard error.
 ";
 
@@ -143,7 +173,7 @@ impl Choice {
     pub fn usage(&self) -> String {
         match self.takes {
             Takes::Nothing => format!("--{}", self.name),
-            Takes::Number(value, _) | Takes::File(value) => format!("--{} {value}", self.name),
+            Takes::Number(value, _) | Takes::File(value) | Takes::Text(value) => format!("--{} {value}", self.name),
         }
     }
 }
@@ -151,10 +181,14 @@ impl Choice {
 impl Command {
     /// How it is called.
     pub fn usage(&self) -> String {
-        let mut usage = format!("tronalhet {} {}", self.name, self.words.join(" "));
-        if self.many {
-            usage.push_str("..");
-        }
+        let (last, words) = self.words.split_last().expect("a command takes a word");
+        let last = match self.last {
+            Last::Once => last.to_string(),
+            Last::OnceOrMore => format!("{last}.."),
+            Last::OnceOrNot => format!("[{last}]"),
+        };
+        let mut usage = ["tronalhet", self.name].iter().chain(words).map(|word| format!("{word} ")).collect::<String>();
+        usage.push_str(&last);
         for choice in self.options {
             let (open, close) = if choice.needed { ("", "") } else { ("[", "]") };
             write!(usage, " {open}{}{close}", choice.usage()).expect("a text can be written to");
@@ -189,6 +223,7 @@ pub struct Call {
     pub words: Vec<OsString>,
     pub out: Option<OsString>,
     numbers: BTreeMap<&'static str, u32>,
+    texts: BTreeMap<&'static str, OsString>,
     flags: BTreeSet<&'static str>,
     pub json: bool,
 }
@@ -202,6 +237,11 @@ impl Call {
     /// The number of an option that was given.
     pub fn number(&self, name: &str) -> Option<u32> {
         self.numbers.get(name).copied()
+    }
+
+    /// The text of an option that was given, as the bytes of the command line.
+    pub fn text(&self, name: &str) -> Option<&[u8]> {
+        self.texts.get(name).map(|text| text.as_bytes())
     }
 
     /// The number of an option that is needed, so that a call without it is never made.
@@ -278,6 +318,7 @@ fn taken(command: &'static Command, words: &[OsString]) -> Result<Asked, String>
         words: vec![],
         out: None,
         numbers: BTreeMap::new(),
+        texts: BTreeMap::new(),
         flags: BTreeSet::new(),
         json: false,
     };
@@ -317,12 +358,13 @@ fn take_option<'a>(
             call.flags.insert(choice.name);
             return Ok(());
         }
-        (Takes::Number(kind, _) | Takes::File(kind), _) => kind,
+        (Takes::Number(kind, _) | Takes::File(kind) | Takes::Text(kind), _) => kind,
     };
     let value = after.map(|bytes| OsStr::from_bytes(bytes).to_os_string()).or_else(|| rest.next().cloned());
     let value = value.ok_or_else(|| format!("--{} wants {kind}", choice.name))?;
     let twice = match choice.takes {
         Takes::Number(_, most) => call.numbers.insert(choice.name, whole_number(choice.name, &value, most)?).is_some(),
+        Takes::Text(_) => call.texts.insert(choice.name, value).is_some(),
         _ => call.out.replace(value).is_some(),
     };
     if twice {
@@ -348,29 +390,45 @@ fn whole_number(name: &str, word: &OsStr, most: u32) -> Result<u32, String> {
 
 /// Whether a call has all that it needs, and no more.
 fn complete(command: &Command, call: &Call) -> Result<(), String> {
-    let (given, wanted) = (call.words.len(), command.words.len());
-    if given < wanted {
+    let (given, most) = (call.words.len(), command.words.len());
+    let least = if command.last == Last::OnceOrNot { most - 1 } else { most };
+    if given < least {
         return Err(format!("{} is missing", command.words[given]));
     }
-    if given > wanted && !command.many {
-        return Err(too_many(&call.words[wanted]));
+    if given > most && command.last != Last::OnceOrMore {
+        return Err(too_many(&call.words[most]));
     }
     let missing = command.options.iter().find(|choice| choice.needed && !call.numbers.contains_key(choice.name));
     if let Some(choice) = missing {
         return Err(format!("{} is missing", choice.usage()));
     }
+    if command.name == "title" {
+        titles(call)?;
+    }
     standard_input(command, call)
+}
+
+/// Titles are set or removed, one of the two.
+fn titles(call: &Call) -> Result<(), String> {
+    let set = call.words.len() > 1 || call.text("note").is_some();
+    match (set, call.flag("remove")) {
+        (false, false) => Err("TEXT, --note TEXT or --remove is missing".into()),
+        (true, true) => Err("--remove removes both titles, so none can be set with it".into()),
+        _ => Ok(()),
+    }
 }
 
 /// Standard input can be read once, and is nothing to be written to.
 fn standard_input(command: &Command, call: &Call) -> Result<(), String> {
     let dash = |word: &OsString| word == "-";
-    if call.words.iter().filter(|word| dash(word)).count() > 1 {
+    // A title may be a dash.
+    let files = if command.name == "title" { &call.words[..1] } else { &call.words };
+    if files.iter().filter(|word| dash(word)).count() > 1 {
         return Err("standard input can be read only once".into());
     }
     let written = match command.name {
         "decode" | "encode" => Some(&call.words[1]),
-        "new-side" => Some(&call.words[0]),
+        "new-side" | "title" => Some(&call.words[0]),
         "add" => Some(call.out.as_ref().unwrap_or(&call.words[0])),
         _ => None,
     };
@@ -429,6 +487,39 @@ mod tests {
         assert_eq!(wrong(&["new-side", "a", "--replace"]), "new-side has no option --replace");
         assert_eq!(wrong(&["check", "a", "--sound=yes"]), "--sound takes no value");
         assert_eq!(call(&["check", "--", "--sound"]).words, ["--sound"]);
+    }
+
+    #[test]
+    fn a_text_is_taken_as_it_is() {
+        let [label, note, both] = [
+            call(&["title", "--number=7", "side", "-"]),
+            call(&["title", "side", "--note", "--remove", "--number", "7"]),
+            call(&["title", "--note=a=b", "--number=7", "side", "--", "--note"]),
+        ];
+        assert_eq!((label.words, label.texts.len()), (vec!["side".into(), "-".into()], 0));
+        assert_eq!(
+            (&note.words[..], note.text("note"), note.flag("remove")),
+            (&["side".into()][..], Some(&b"--remove"[..]), false)
+        );
+        assert_eq!((&both.words[1], both.text("note")), (&"--note".into(), Some(&b"a=b"[..])));
+        assert_eq!(call(&["title", "side", "", "--note=", "--number=7"]).text("note"), Some(&b""[..]));
+        assert!(call(&["title", "side", "--remove", "--number=7"]).flag("remove"));
+    }
+
+    #[test]
+    fn titles_are_set_or_removed() {
+        let of_seven = |more: &[&str]| wrong(&[&["title", "--number=7"], more].concat());
+        assert_eq!(wrong(&["title", "side", "text"]), "--number N is missing");
+        assert_eq!(of_seven(&[]), "SIDE is missing");
+        assert_eq!(of_seven(&["side"]), "TEXT, --note TEXT or --remove is missing");
+        for more in [&["text"][..], &["--note=a"], &["text", "--note", ""]] {
+            let what = of_seven(&[&["side", "--remove"], more].concat());
+            assert_eq!(what, "--remove removes both titles, so none can be set with it");
+        }
+        assert_eq!(of_seven(&["side", "text", "more"]), "'more' is one word too many");
+        assert_eq!(of_seven(&["side", "--note"]), "--note wants TEXT");
+        assert_eq!(of_seven(&["side", "--note=a", "--note=a"]), "--note is there twice");
+        assert_eq!(of_seven(&["-", "text"]), "the new file must have a name, and - has none");
     }
 
     #[test]

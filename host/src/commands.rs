@@ -1,14 +1,15 @@
-//! The six commands: what each reads, asks the library, writes and reports.
+//! The seven commands: what each reads, asks the library, writes and reports.
 use crate::answer::{say, text, Answer, Told};
 use crate::call::Call;
 use crate::eprint;
 use crate::reading::{glance, is_stream, whole};
 use crate::shown::Json;
-use crate::stop::{counted, shown, Stop};
+use crate::stop::{counted, readable, shown, shown_text, Stop};
 use crate::writing::Target;
 use std::ffi::{OsStr, OsString};
-use tronalhet::places::{left_out, of_adding, way_out_of_adding, Kept, Which};
-use tronalhet::{Donation, Fault, Frames, Record, Refusal};
+use std::os::unix::ffi::OsStrExt;
+use tronalhet::places::{left_out, of_adding, way_out_of_adding, Kept, Place, Which};
+use tronalhet::{Donation, Fault, Frames, Record, Refusal, Title, TitleKind, MOST_BYTES, MOST_TEXT};
 
 /// How many bytes a block of an approval copy has where nothing else is said.
 const USUAL_ALIGN: u32 = 1024;
@@ -26,6 +27,7 @@ pub fn run(call: &Call) -> u8 {
         "decode" => decode(first, &call.words[1], call),
         "encode" => encode(first, &call.words[1], call),
         "add" => add(call),
+        "title" => title(call),
         _ => new_side(call),
     };
     say(call, first, answer)
@@ -81,7 +83,28 @@ fn fields_of(record: &Record) -> Vec<(&'static str, Json)> {
         ("frames", Json::Number(record.frames.0.into())),
         ("cues", Json::List(record.cues.iter().map(cue).collect())),
         ("playlist", Json::List(record.playlist.iter().map(play).collect())),
+        ("titles", Json::List(record.titles.iter().map(title_fields).collect())),
     ]
+}
+
+/// A title for scripts. A text that is no UTF-8 is there twice: to be read, and as the bytes that it is.
+fn title_fields(title: &Title) -> Json {
+    let mut fields = vec![
+        ("name", Json::Number(title.cue.0.into())),
+        ("kind", Json::Text(kind_of(title).into())),
+        ("text", Json::Text(readable(&title.text))),
+    ];
+    if std::str::from_utf8(&title.text).is_err() {
+        fields.push(("hex", Json::Text(title.text.iter().map(|byte| format!("{byte:02x}")).collect())));
+    }
+    Json::Object(fields)
+}
+
+fn kind_of(title: &Title) -> &'static str {
+    match title.kind {
+        TitleKind::Label => "label",
+        TitleKind::Note => "note",
+    }
 }
 
 // ---- what is written
@@ -268,4 +291,107 @@ fn added(adding: &Adding, side: &[u8], song: &[u8], made: &[u8]) -> Result<Told,
         told = told.with("same_sound_as", Json::List(numbers));
     }
     Ok(told)
+}
+
+// ---- a cue is given its titles
+
+/// The file is read while others are kept out, so that none of their songs is lost.
+fn title(call: &Call) -> Answer {
+    let (name, cue) = (&call.words[0], Donation(call.needed("number")));
+    let locked = Target::new(name)?.lock_folder(eprint)?;
+    // Until the lock is held, another run may replace it.
+    let target = Target::new(name)?;
+    if !call.flag("replace") {
+        target.has_one_name()?;
+    }
+    let file = whole(name)?;
+    let refused = |refusal: Refusal| Stop::of_file(name, &file, refusal.into());
+    let old = tronalhet::read(&file).map_err(refused)?;
+    if old.cues.iter().all(|known| known.name != cue) {
+        return Err(no_such_cue(name, &old, cue));
+    }
+    let new = retitled(&old, cue, call);
+    let told = titles_of(&new, cue);
+    if new == old {
+        return Ok(already_so(name, &new, cue, told));
+    }
+    let sound = tronalhet::sound_of(&file).map_err(refused)?;
+    let made = tronalhet::write(&new, sound).map_err(|fault| not_titled(name, &file, &new, cue, fault))?;
+    let told = told.and_fact("bytes", made.len()).without(&[(name, left_out(&file, Kept::All))]);
+    let answer = write(&target, name, &made, call.flag("backup"), told);
+    drop(locked);
+    answer
+}
+
+/// A record with the titles that a call asks for.
+fn retitled(old: &Record, cue: Donation, call: &Call) -> Record {
+    let mut new = old.clone();
+    if call.flag("remove") {
+        new.remove_titles(cue);
+    }
+    let label = call.words.get(1).map(|text| text.as_bytes());
+    for (kind, text) in [(TitleKind::Label, label), (TitleKind::Note, call.text("note"))] {
+        text.into_iter().for_each(|text| new.set_title(kind, cue, text));
+    }
+    new
+}
+
+/// The titles of a cue, as they are now.
+fn titles_of(record: &Record, cue: Donation) -> Told {
+    let mut told = Told::facts(&[("cue", cue.0 as usize)]);
+    let line = |title: &Title| format!("{} {}", kind_of(title), shown_text(&title.text));
+    told.lines.extend(record.titles_of(cue).map(line));
+    told.with("titles", Json::List(record.titles_of(cue).map(title_fields).collect()))
+}
+
+/// A person should know that nothing was done.
+fn already_so(name: &OsStr, record: &Record, cue: Donation, mut told: Told) -> Told {
+    let so = if record.titles_of(cue).next().is_some() { "its titles are so already" } else { "it has no titles" };
+    told.remarks.push(format!("{}: cue {}: {so}; nothing was written", shown(name), cue.0));
+    told
+}
+
+/// A title that cannot be, as the library would say too, and what can be done.
+fn no_title(name: &OsStr, cue: Donation, what: String, way_out: String) -> Stop {
+    let place = Some(Place { cue: Some(cue), what, ..Place::default() });
+    Stop::Refused { refusal: Refusal::TitlesWrong, file: name.into(), place, way_out: Some(way_out) }
+}
+
+fn no_such_cue(name: &OsStr, record: &Record, cue: Donation) -> Stop {
+    let numbers: Vec<String> = record.cues.iter().map(|cue| cue.name.0.to_string()).collect();
+    let way_out = match &numbers[..] {
+        [] => "it has no cues: a song gets one where it is added to a side".into(),
+        [one] => format!("its cue is {one}"),
+        many => format!("its cues are {}", many.join(", ")),
+    };
+    no_title(name, cue, "there is no such cue".into(), way_out)
+}
+
+/// Why titles were not written.
+fn not_titled(name: &OsStr, file: &[u8], new: &Record, cue: Donation, fault: Fault) -> Stop {
+    let wrong = |title: &&Title| title.text.len() > MOST_TEXT || title.text.contains(&0);
+    match (fault, new.titles_of(cue).find(wrong)) {
+        (Fault::Refused(Refusal::TitlesWrong), Some(title)) => {
+            let over = title.text.len().saturating_sub(MOST_TEXT);
+            let (what, way_out) = match over {
+                0 => ("has a zero byte".into(), "leave out the zero byte".into()),
+                _ => (format!("has {} bytes, and {MOST_TEXT} are the most", title.text.len()), shorter(over)),
+            };
+            no_title(name, cue, format!("its {} {what}", kind_of(title)), way_out)
+        }
+        (Fault::Refused(refusal @ Refusal::LengthOutOfRange), _) => {
+            let sound = tronalhet::sound_of(file).map_or(0, <[u8]>::len);
+            let bytes = new.file_bytes(sound);
+            Stop::of_call(
+                name,
+                refusal,
+                format!("its new file would have {bytes} bytes, and {MOST_BYTES} are the most"),
+            )
+        }
+        _ => Stop::of_file(name, file, fault),
+    }
+}
+
+fn shorter(over: usize) -> String {
+    format!("make it shorter by {}; a letter may have several", counted(over as u64, "byte", "bytes"))
 }

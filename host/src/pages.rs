@@ -1,5 +1,6 @@
 //! The man page and the completion of bash. Both are made from the table of commands, as the help is.
 use crate::call::{Command, Takes, COMMANDS, FILES, STATUS};
+use std::collections::BTreeSet;
 use tronalhet::Refusal;
 
 /// Calls that are no commands of the table.
@@ -19,12 +20,13 @@ const LEFT: [(&str, &str); 2] = [
     ),
 ];
 
-const EXAMPLES: [(&str, &str); 5] = [
+const EXAMPLES: [(&str, &str); 6] = [
     ("An empty side in stereo:", "tronalhet new-side side-a.wav --channels 2 --rate 44100"),
     (
         "A song is added to it; the side may have 18 minutes, and the old side is kept:",
         "tronalhet add side-a.wav song.wav --number 101 --limit 47628000 --backup",
     ),
+    ("The song is given its title:", "tronalhet title side-a.wav --number 101 'Harbour Song'"),
     ("All songs of a folder are tested, their sound too:", "tronalhet check --sound *.wav"),
     ("An approval copy for a donor:", "tronalhet encode song.wav copy.wav"),
     ("The songs of a side, for a script:", "tronalhet list side-a.wav --json"),
@@ -112,8 +114,8 @@ _tronalhet() {
     [ "$before" = = ] && before=${COMP_WORDS[COMP_CWORD - 2]}
     case $COMP_CWORD:$before:${COMP_WORDS[1]}:$word in
         1:*) words='%commands% help --help --version' ;;
-        # A number, which is not to be completed.
-        %numbers%) ;;
+        # A number or a text, which is not to be completed.
+        %typed%) ;;
         *:help:*) words='%commands%' ;;
 %options%        # A file, which bash completes by itself.
         *) return ;;
@@ -128,11 +130,12 @@ complete -o default -F _tronalhet tronalhet
 pub fn completion() -> String {
     let commands: Vec<&str> = COMMANDS.iter().map(|command| command.name).collect();
     let choices = COMMANDS.iter().flat_map(|command| command.options);
-    let numbers = choices.filter(|choice| matches!(choice.takes, Takes::Number(..)));
-    let numbers: Vec<String> = numbers.map(|choice| format!("*:--{}:*", choice.name)).collect();
+    let typed = choices.filter(|choice| matches!(choice.takes, Takes::Number(..) | Takes::Text(_)));
+    let typed: BTreeSet<String> = typed.map(|choice| format!("*:--{}:*", choice.name)).collect();
+    let typed: Vec<String> = typed.into_iter().collect();
     let options: String = COMMANDS.iter().map(options_arm).collect();
     let filled = COMPLETION.replace("%commands%", &commands.join(" "));
-    filled.replace("%numbers%", &numbers.join(" | ")).replace("%options%", &options)
+    filled.replace("%typed%", &typed.join(" | ")).replace("%options%", &options)
 }
 
 /// The options of a command, for a word that begins like one.

@@ -59,14 +59,39 @@ pub fn shown(name: &OsStr) -> String {
         Some("") => return "''".into(),
         _ => {}
     }
-    let (mut text, mut rest) = (String::new(), name.as_bytes());
+    on_one_line(name.as_bytes())
+}
+
+/// The text of a title as people see it, on one line too.
+pub fn shown_text(text: &[u8]) -> String {
+    if text.is_empty() {
+        return "''".into();
+    }
+    on_one_line(text)
+}
+
+fn on_one_line(bytes: &[u8]) -> String {
+    let mut line = String::new();
+    for letter in readable(bytes).chars() {
+        if is_plain(letter) {
+            line.push(letter);
+        } else {
+            line.extend(letter.escape_default());
+        }
+    }
+    line
+}
+
+/// Bytes as the text that they are in UTF-8; each byte that is none is escaped.
+pub fn readable(bytes: &[u8]) -> String {
+    let (mut text, mut rest) = (String::new(), bytes);
     while !rest.is_empty() {
         let valid = match std::str::from_utf8(rest) {
             Ok(_) => rest.len(),
             Err(error) => error.valid_up_to(),
         };
         let (front, after) = rest.split_at(valid);
-        String::from_utf8_lossy(front).chars().for_each(|letter| put_letter(&mut text, letter));
+        text.push_str(&String::from_utf8_lossy(front));
         rest = after;
         if let Some((byte, more)) = rest.split_first() {
             text.push_str(&format!("\\x{byte:02x}"));
@@ -74,14 +99,6 @@ pub fn shown(name: &OsStr) -> String {
         }
     }
     text
-}
-
-fn put_letter(text: &mut String, letter: char) {
-    if is_plain(letter) {
-        text.push(letter);
-    } else {
-        text.extend(letter.escape_default());
-    }
 }
 
 /// A number of things, with the word for one or for more.
@@ -109,5 +126,15 @@ mod tests {
             (named(b"-"), named(b""), named(b"a\\b 'c'")),
             ("standard input".into(), "''".into(), "a\\b 'c'".into())
         );
+    }
+
+    #[test]
+    fn texts_are_shown_as_they_are_or_escaped() {
+        let bytes = b"Gr\xc3\xb6\xdfe\n\xe2\x80";
+        assert_eq!(
+            (shown_text(bytes), readable(bytes)),
+            ("Grö\\xdfe\\n\\xe2\\x80".into(), "Grö\\xdfe\n\\xe2\\x80".into())
+        );
+        assert_eq!((shown_text(b""), shown_text(b"-"), readable(b"")), ("''".into(), "-".into(), "".into()));
     }
 }

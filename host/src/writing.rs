@@ -112,7 +112,8 @@ impl Target {
         let not_locked = |error: io::Error| Stop::not_written(&self.path, &error);
         let folder = File::open(&self.folder).map_err(not_locked)?;
         if !lock(&folder, false).map_err(not_locked)? {
-            waiting(&format!("waiting for another add or new-side in {}", shown(self.folder.join("").as_os_str())));
+            let place = shown(self.folder.join("").as_os_str());
+            waiting(&format!("waiting for another add, title or new-side in {place}"));
             lock(&folder, true).map_err(not_locked)?;
         }
         Ok(folder)
