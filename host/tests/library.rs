@@ -1,7 +1,7 @@
 //! The library on document 01's own examples, and on what a caller in Rust would try.
 use tronalhet::{
     add, approval_copy, decode, decode_block, empty_side, encode, read, sixteen_bit, sound_of, write, Cue, Donation,
-    Fault, Format, Frames, Play, Record, Refusal, Room,
+    Fault, Format, Frames, Play, Record, Refusal, Room, Title, TitleKind, MOST_TEXT,
 };
 
 /// A record without cues.
@@ -108,6 +108,77 @@ fn songs_are_added_once() {
     assert_eq!(made(add(&song(1), &song(2), Donation(1), Frames(8))), refused(Refusal::NotASide));
     assert_eq!(made(empty_side(3, 8000)), refused(Refusal::FormatWrong));
     assert_eq!(made(empty_side(65535, 8000)), refused(Refusal::FormatWrong));
+}
+
+/// Cues 7 and 9 of 8-bit sound, and some titles.
+fn titled(titles: &[(TitleKind, u32, &[u8])]) -> Record {
+    let cue = |name, place| Cue { name: Donation(name), position: Frames(place), place: Frames(place) };
+    let title =
+        |(kind, cue, text): &(TitleKind, u32, &[u8])| Title { kind: *kind, cue: Donation(*cue), text: text.to_vec() };
+    Record { cues: vec![cue(7, 0), cue(9, 2)], titles: titles.iter().map(title).collect(), ..eight_bit(4) }
+}
+
+#[test]
+fn titles_are_written_and_read() {
+    use TitleKind::{Label, Note};
+    let long = [0xff; MOST_TEXT];
+    let titles: [&[(TitleKind, u32, &[u8])]; 4] = [
+        &[],
+        &[(Label, 7, b"Song")],
+        &[(Note, 9, b"a"), (Label, 9, b""), (Label, 7, &long)],
+        &[(Label, 9, b"one"), (Note, 7, &long), (Note, 9, b"two"), (Label, 7, b"three")],
+    ];
+    for record in titles.map(titled) {
+        let file = write(&record, &[1, 2, 3, 4]).unwrap();
+        assert_eq!((read(&file).as_ref(), sound_of(&file)), (Ok(&record), Ok(&[1, 2, 3, 4][..])));
+        assert_eq!(file.len(), record.file_bytes(4));
+        assert_eq!(read(&sixteen_bit(&file).unwrap().0).unwrap().titles, record.titles);
+        assert_eq!(read(&approval_copy(&file, 256).unwrap().file).unwrap().titles, []);
+    }
+}
+
+#[test]
+fn titles_that_cannot_be_are_refused() {
+    use TitleKind::{Label, Note};
+    let many: Vec<(TitleKind, u32, &[u8])> = vec![(Note, 7, b""); 200_000];
+    let wrong: [&[(TitleKind, u32, &[u8])]; 7] = [
+        &[(Label, 7, &[b'x'; MOST_TEXT + 1])],
+        &[(Label, 7, &[b'x'; 1 << 20]), (Note, 7, b"")],
+        &[(Note, 7, b"a"), (Note, 9, b"a\0b")],
+        &[(Label, 9, b"\0")],
+        &[(Label, 8, b"a")],
+        &[(Note, 9, b"a"), (Label, 9, b"a"), (Note, 9, b"b")],
+        &many,
+    ];
+    for titles in wrong {
+        assert_eq!(made(write(&titled(titles), &[0; 4])), refused(Refusal::TitlesWrong));
+    }
+    let mut file = made(write(&titled(&[(Label, 7, b"Song")]), &[0; 4])).unwrap();
+    let zero = file.len() - 4 - 8 - 2;
+    file[zero] = b'x';
+    assert_eq!(read(&file), Err(Refusal::TitlesWrong));
+    assert_eq!(made(decode(&file)), refused(Refusal::TitlesWrong));
+}
+
+#[test]
+fn a_side_keeps_its_titles() {
+    let record = record(Format::sixteen_bit(1, 8000), 4);
+    let song = |value: u8| write(&record, &[value; 8]).unwrap();
+    let side = add(&empty_side(1, 8000).unwrap(), &song(1), Donation(7), Frames(9)).unwrap();
+    let mut there = read(&side).unwrap();
+    there.set_title(TitleKind::Note, Donation(7), b"a note");
+    there.set_title(TitleKind::Label, Donation(7), b"The song");
+    let titled = write(&there, sound_of(&side).unwrap()).unwrap();
+    let more = add(&titled, &song(2), Donation(9), Frames(9)).unwrap();
+    assert_eq!((read(&more).unwrap().titles, more.len()), (there.titles, titled.len() + 36 + 8));
+    // A song brings no titles, and a wrong list in it is refused.
+    let other = add(&empty_side(1, 8000).unwrap(), &titled, Donation(7), Frames(9)).unwrap();
+    assert_eq!(other[..], side[..]);
+    let mut wrong = titled.to_vec();
+    let list = wrong.windows(4).position(|letters| letters == b"labl").unwrap();
+    wrong[list + 8] = 8;
+    assert_eq!(made(add(&side, &wrong, Donation(8), Frames(9))), refused(Refusal::TitlesWrong));
+    assert_eq!(made(add(&wrong, &song(2), Donation(8), Frames(9))), refused(Refusal::NotASide));
 }
 
 #[test]
