@@ -7,11 +7,12 @@ import time
 from host.places import record_of, with_junk
 from host.run import (ADDED, ADDED_SONG, DECODED, FILES, HOST, KNOWN, NEW, OF_SOUND, added, does, left_out,
                       many_songs, tells)
+from host.titles import with_titles
 from second import command as second_command, reader as second_reader
 from second.command import answer
 from trying import EMPTY, ROOT, SONG, expect, holding, make, printed, run, start, tried
 from vectors import side_files, wave_files
-from vectors.wave_files import chunk, cue, data, fmt, point, wave
+from vectors.wave_files import adtl, chunk, cue, data, fmt, labl, point, wave
 
 
 def names():
@@ -105,9 +106,10 @@ def wrongly(words, usage=None):
 
 # A right call of each command, and the options that it has beside --json.
 CALLS = {'list': ['song.wav'], 'check': ['song.wav'], 'decode': ['song.wav', 'new.wav'],
-         'encode': ['song.wav', 'new.wav'], 'add': ['side.wav', 'song.wav', *ADDED], 'new-side': ['new.wav', *NEW]}
+         'encode': ['song.wav', 'new.wav'], 'add': ['side.wav', 'song.wav', *ADDED],
+         'title': ['side.wav', 'Song', '--number=7'], 'new-side': ['new.wav', *NEW]}
 OPTIONS = {'list': [], 'check': [], 'decode': [], 'encode': ['--align'], 'add': ['--number', '--limit', '--out'],
-           'new-side': ['--channels', '--rate']}
+           'title': ['--number', '--note'], 'new-side': ['--channels', '--rate']}
 
 
 def called_wrongly():
@@ -128,6 +130,10 @@ def called_wrongly():
         wrongly(['add', *[word for word in CALLS['add'] if not word.startswith(option)]])
     for option in ('--channels', '--rate'):
         wrongly(['new-side', *[word for word in CALLS['new-side'] if not word.startswith(option)]])
+    for words in (['side.wav', 'Song'], ['side.wav', '--number=7'], ['side.wav', '--number=7', '--remove', 'Song'],
+                  ['side.wav', '--number=7', '--remove', '--note=a'], ['side.wav', '--number=7', '--remove=a'],
+                  ['-', 'Song', '--number=7'], ['-', '--remove', '--number=7']):
+        wrongly(['title', *words])
     for words in (['add', '-', '-', *ADDED, '--out=new.wav'], ['add', '-', 'song.wav', *ADDED], ['decode', '-', '-'],
                   ['add', 'side.wav', 'song.wav', *ADDED, '--out=-'], ['decode', 'song.wav', '-'],
                   ['encode', 'song.wav', '-'], ['new-side', '-', *NEW], ['check', '-', 'song.wav', '-']):
@@ -137,7 +143,8 @@ def called_wrongly():
 def no_numbers():
     """Arguments that are not a number, or too large a one; zeros in front are accepted."""
     for word in ('', 'seven', '-1', '+1', ' 1', '1 ', '1.0', '0x10', '1e3', '4294967296', '9' * 30, '1' * 5000, '٣'):
-        for name, option in [(name, option) for name in OPTIONS for option in OPTIONS[name] if option != '--out']:
+        typed = '--out', '--note'
+        for name, option in [(name, option) for name in OPTIONS for option in OPTIONS[name] if option not in typed]:
             call = [part for part in CALLS[name] if not part.startswith(option)]
             wrongly([name, *call, option, word])
             wrongly([name, *call, f'{option}={word}'])
@@ -161,7 +168,8 @@ def called():
 
 def helps():
     """The help names every command and option, and what the status means; nothing is done beside."""
-    calls = ['list FILE', 'check FILE..', 'decode IN OUT', 'encode IN OUT', 'add SIDE SONG', 'new-side OUT']
+    calls = ['list FILE', 'check FILE..', 'decode IN OUT', 'encode IN OUT', 'add SIDE SONG', 'title SIDE [TEXT]',
+             'new-side OUT']
     general = ['--json', '64', '74', '18', '1,073,741,824', 'standard input']
     texts = [([more], [*calls, *sum(OPTIONS.values(), []), *general]) for more in ('--help', '-h', 'help')]
     for (name, known), call in zip(OPTIONS.items(), calls):
@@ -177,13 +185,15 @@ def json_page():
     shown = [(line.split()[2:], lines[turn + 1].strip()) for turn, line in enumerate(lines)
              if line.startswith('    $ tronalhet ')]
     side = added(EMPTY, make.files()['harbour-song.wav'], 101, 4000)[1]
+    inner = chunk(b'ltxt'), labl(7, b'a'), chunk(b'ltxt')
     files = {**make.files(), 'side.wav': side, 'copy.wav': answer(second_command.encode, SONG, 256)[1],
-             'titled.wav': wave(fmt(), chunk(b'LIST', b'INFO'), data())}
+             'titled.wav': with_titles(side, [(0, 101, b'Harbour Song\0')]),
+             'tagged.wav': wave(fmt(), cue(point(7, 0)), chunk(b'LIST', b'INFO'), adtl(*inner), data())}
     wrong = {'side.wav': wave(fmt(), cue(point(101, 0), point(101, 1)), data())}
     expect('the examples of docs/JSON.md', [words[0] for words, _ in shown],
-           ['check', 'list', 'check', 'decode', 'encode', 'add', 'new-side', 'decode'])
+           ['check', 'list', 'check', 'decode', 'encode', 'add', 'title', 'new-side', 'decode'])
     for words, line in shown:
-        new = words[2 if words[0] in ('decode', 'encode') else 1] if words[0] not in ('list', 'check', 'add') else None
+        new = {'decode': words[2], 'encode': words[2], 'new-side': words[1]}.get(words[0])
         there = wrong if (words[0], words[1]) == ('check', 'side.wav') else files
         with holding({name: content for name, content in there.items() if name != new}) as folder:
             expect(f'docs/JSON.md, {words}', run([*HOST, *words], folder)[1], f'{line}\n')

@@ -8,7 +8,8 @@ from trying import expect
 from second import command as second_command, reader as second_reader, side as second_side
 from second.command import answer
 from vectors import side_files, sound_files
-from vectors.wave_files import PAIRS, chunk, cue, data, entry, fact, fmt, ima, microsoft, plst, point, unpadded, wave
+from vectors.wave_files import (LONG, LONGER, PAIRS, adtl, bare, chunk, cue, data, entry, fact, fmt, ima, labl,
+                                microsoft, note, plst, point, unpadded, wave)
 
 
 # ---- faults that are made by hand
@@ -109,9 +110,32 @@ def table_faults():
         yield f'playlist, {label}, before the cues', wave(made, fmt(), data(), cue(*good)), 13, said
 
 
+def title_faults():
+    """The same of the list of titles, at its front, behind a title and another chunk, and behind 4,096 bytes."""
+    cues, song, odd = cue(point(7, 0), point(8, 3)), labl(7, b'Song'), chunk(b'ltxt', b'abc')
+    before = [], [song, odd], [chunk(b'file', bytes(range(256)) * 20), note(8, LONG)]
+    for label, made, said in (
+            ('a label of 4 bytes', labl(8, b'', b''), [4, 5, 260, 255]),
+            ('a note of no bytes', chunk(b'note'), [0, 5, 260, 255]), ('a text of 256 bytes', labl(8, LONGER), [261]),
+            ('no zero', labl(8, b'Tune', b'!'), ['last', 'zero']),
+            ('a zero inside', labl(8, b'Tu\0ne'), ['last', 'zero']),
+            ('no such cue', labl(9, b'Song'), ['cue']), ('the largest name', note(2**32 - 1, b'Song'), ['cue']),
+            ('a second label', song + note(7, b'x') + labl(7, b''), ['second', 'first']),
+            ('a second note', note(7, b'x') + labl(8, b'') + note(7, b'x'), ['second', 'first']),
+            ('past the list', chunk(b'labl', song[8:16], 9), [9]),
+            ('past the file', chunk(b'ltxt', b'', 2**32 - 1), [2**32 - 1]),
+            ('a title without its pad', bare(song), [9, 'pad']), ('another without its pad', bare(odd), [3, 'pad']),
+            ('a head that is cut', b'labl\x09\0', ['header'])):
+        for turn, front in enumerate(before):
+            yield f'titles, {label}, {turn}', wave(fmt(), cues, adtl(*front, made), data()), 21, said
+    yield 'two lists of titles', wave(fmt(), cues, adtl(song), data(), adtl()), 21, ['second', 'first']
+    yield 'titles and no cues', wave(fmt(), adtl(song), data()), 21, ['cue']
+    yield 'a list behind the sound', wave(fmt(), cues, data(), adtl(bare(song))), 21, [9, 'pad']
+
+
 def placed():
     """A fault is reported with chunk, field, byte and cue, and the numbers that matter; also after a skipped chunk."""
-    for label, file, number, words in [*faults(), *format_faults(), *table_faults()]:
+    for label, file, number, words in [*faults(), *format_faults(), *table_faults(), *title_faults()]:
         for made in [file] if number < 4 else [file, with_junk(file, 12)]:
             expect(f'{label}, the number by the second reader', refusal_of(made), number)
             where = {'file': 'file.wav', **place_in(number, made)}
@@ -179,6 +203,10 @@ def wrong_files():
         place = place_in(number, made)
         not_added(f'song: {label}', side, made, 5, 99, number, {'file': 'song.wav', **place})
         not_added(f'side: {label}', made, song, 5, 99, 19, {'file': 'side.wav', **place}, [number])
+    for label, made in side_files.faulty_titles():
+        place = place_in(21, made)
+        not_added(f'song: {label}', side, made, 5, 99, 21, {'file': 'song.wav', **place})
+        not_added(f'side: {label}', made, song, 5, 99, 19, {'file': 'side.wav', **place}, [21])
     for label, made in side_files.wrong_tables():
         not_added(f'no side: {label}', made, song, 5, 99, 19, {'file': 'side.wav', **no_side(made)})
     for label, made in side_files.wrong_formats():

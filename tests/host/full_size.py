@@ -298,8 +298,9 @@ def interrupted(folder):
     before = (folder / 'side.wav').stat()
     # The side has a second name here.
     add = ['add', 'side.wav', 'one more.wav', '--number=5', '--limit', FRAMES + 1, '--replace']
+    title = ['title', 'side.wav', 'Song', '--number=101', '--replace']
     decode = ['decode', '101.wav', 'old.wav', '--replace'], ['decode', '101.wav', 'new.wav']
-    for number, commands in ((signal.SIGKILL, [add, *decode]), (signal.SIGTERM, [add, *decode]),
+    for number, commands in ((signal.SIGKILL, [add, title, *decode]), (signal.SIGTERM, [add, title, *decode]),
                              (signal.SIGINT, decode), (signal.SIGHUP, decode)):
         for words in commands:
             label = f'{words[0]}, {number.name}'

@@ -131,7 +131,7 @@ def man_page():
             wanted += re.findall(r'^  (--.*)', run([*HOST, name, '--help'], '/')[1], re.M)
         wanted += [f'{number} {meaning}' for number, meaning in MEANINGS.items()]
         wanted += ['NAME tronalhet - ', 'SYNOPSIS', 'EXIT STATUS', 'FILES', 'EXAMPLES', 'SEE ALSO', '74 I/O error']
-        expect('how many commands there are', len(usages()), 6)
+        expect('how many commands there are', len(usages()), 7)
         expect('what the man page lacks', [line for line in wanted if ' '.join(line.split()) not in page], [])
         if shutil.which('groff'):
             status, shown, said = run(['groff', '-man', '-ww', '-Tutf8', path], '/')
@@ -170,10 +170,11 @@ class Typing:
         os.close(self.ours)
 
 
-# Files are completed, but not where a command or a number stands.
+# Files are completed, but not where a command, a number or the text of an option stands.
 TYPED = [('list ev\t', ['list', 'evening song.wav']), ('check --s\tso\to\t', ['check', '--sound', 'songs/one.wav']),
          ('add --out ev\t', ['add', '--out', 'evening song.wav']), ('add --number ev\t', ['add', '--number', 'ev']),
          ('add --out=ev\t', ['add', '--out=evening song.wav']), ('add --limit=ev\t', ['add', '--limit=ev']),
+         ('title ev\t --note ev\t', ['title', 'evening song.wav', '--note', 'ev']),
          ('list --so\t', ['list', '--so']), ('ev\t', ['ev']), ('help ev\t', ['help', 'ev'])]
 
 

@@ -1,8 +1,8 @@
 """Where the fault of a refused file is, by a walk that is not the command's own."""
 import struct
 
-from host.run import escaped, refusal_in
-from host.walk import walked
+from host.run import TITLES, escaped, refusal_in
+from host.walk import in_list, title_lists, walked
 from second import reader as second_reader
 from vectors import many_files
 from vectors.wave_files import PAIRS, chunk
@@ -104,6 +104,43 @@ def table_place(file, code, each, wrong):
     return {**field_of(file, code, field, 4 + each * turn + offset), 'cue': name}
 
 
+def wrong_chunk(file, end, names, seen, code, at, size):
+    """The place of what is wrong with a chunk of the list of titles, which ends there; None where it can be so. Titles
+    of these kinds and names were seen before it."""
+    of_size = {'chunk': escaped(code), 'field': 'size', 'byte': at + 4}
+    if size % 2 and at + 8 + size == end < len(file):
+        return of_size
+    if code not in TITLES:
+        return None
+    if not 5 <= size <= 260:
+        return of_size
+    name, text = int.from_bytes(file[at + 8:at + 12], 'little'), file[at + 12:at + 8 + size]
+    of_cue = {'chunk': code.decode(), 'cue': name}
+    if text.find(0) != len(text) - 1:
+        return {**of_cue, 'field': 'text', 'byte': at + 12}
+    if name not in names:
+        return {**of_cue, 'field': 'name', 'byte': at + 8}
+    return {**of_cue, 'byte': at} if (code, name) in seen else None
+
+
+def wrong_titles(file):
+    """The place of what is wrong with the titles: a second list, or the first chunk of the list that cannot be."""
+    (start, end), *more = title_lists(file)
+    if more:
+        return {'chunk': 'LIST', 'byte': more[0][0]}
+    cues = entries(file, b'cue ', 24) if b'cue ' in codes(file) else []
+    names, seen = [int.from_bytes(made[:4], 'little') for made in cues], set()
+    found, stop = in_list(file, start, end)
+    for code, at, size in found:
+        place = wrong_chunk(file, end, names, seen, code, at, size)
+        if place is not None:
+            return place
+        seen.add((code, int.from_bytes(file[at + 8:at + 12], 'little')))
+    if stop + 8 > end:
+        return {'chunk': 'LIST', 'byte': stop}
+    return {'chunk': escaped(file[stop:stop + 4]), 'field': 'size', 'byte': stop + 4}
+
+
 def open_sound(file):
     """Where `data` is if its size was never written: FFFFFFFF, nearly 2 GiB, or 0 before what is no code of a chunk."""
     found, stop = walked(file)
@@ -153,6 +190,8 @@ def place_in(number, file):
         return field_of(file, b'fact', 'size' if first(file, b'fact')[1] < 4 else 'count', 0)
     if number in (12, 13):
         return table_place(file, *((b'cue ', 24, wrong_cue) if number == 12 else (b'plst', 12, wrong_entry)))
+    if number == 21:
+        return wrong_titles(file)
     return {}
 
 
@@ -161,13 +200,22 @@ def refusal_of(file):
     return refusal_in(second_reader.listing(file)[0])
 
 
+def title_objects(titles):
+    """Titles, each with its text and the zero, as a script gets them."""
+    for kind, name, text in titles:
+        text = text[:-1]
+        shown = {'name': name, 'kind': ('label', 'note')[kind], 'text': text.decode(errors='backslashreplace')}
+        yield shown if text == text.decode(errors='ignore').encode() else {**shown, 'hex': text.hex()}
+
+
 def record_of(name, file):
     """What `list` must report to a script on a file that is accepted."""
     (tag, channels, rate, bits, align, samples), frames, cues, plays, _, _ = second_reader.read(file)
     return {'file': name, 'ok': True, 'refused': 0, 'tag': tag, 'channels': channels, 'rate': rate, 'bits': bits,
             'align': align, 'samples_per_block': samples, 'frames': frames,
             'cues': [{'name': name, 'position': position, 'place': place} for name, position, place in cues],
-            'playlist': [{'name': name, 'length': length, 'times': times} for name, length, times in plays]}
+            'playlist': [{'name': name, 'length': length, 'times': times} for name, length, times in plays],
+            'titles': [*title_objects(second_reader.titles(file))]}
 
 
 def with_junk(file, at):

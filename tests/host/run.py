@@ -5,7 +5,7 @@ import platform
 import re
 
 from trying import EMPTY, ROOT, SONG, WRONG, make, meanings, printed, tried
-from host.walk import walked
+from host.walk import in_list, title_lists, walked
 from second import command as second_command, reader as second_reader, side as second_side
 from second.command import answer
 from vectors.wave_files import fmt
@@ -25,6 +25,8 @@ second_command.LIMIT = MOST
 # Chunks that a new file says again: those of the sound, and with the tables all that are known.
 OF_SOUND = b'fmt ', b'fact', b'data'
 KNOWN = *OF_SOUND, b'cue ', b'plst'
+# Chunks of the list of titles that it says again, where it says all that is known.
+TITLES = {b'labl': 'label', b'note': 'note'}
 
 
 def added(side, song, number, limit):
@@ -65,11 +67,22 @@ def cut(about):
     return seen
 
 
+def not_kept(file, kept):
+    """The chunks of a file that the new one does not have, each as its code and whether it is in the list of titles."""
+    lists = {at: in_list(file, at, end)[0] for at, end in title_lists(file)}
+    for code, at, _ in walked(file)[0]:
+        inner = [code for code, _, _ in lists.get(at, [])]
+        if kept == KNOWN and any(code in TITLES for code in inner):
+            yield from ((code, True) for code in inner if code not in TITLES)
+        elif code not in kept:
+            yield code, False
+
+
 def left_out(name, file, kept):
     """The line that names the chunks of a file that the new one does not have; none where there are none."""
-    counted = collections.Counter(code for code, _, _ in walked(file)[0] if code not in kept)
-    words = [f"chunk '{escaped(code)}'" if count == 1 else f"{count} chunks '{escaped(code)}'"
-             for code, count in [*counted.items()][:20]]
+    counted = collections.Counter(not_kept(file, kept))
+    words = [(f"chunk '{escaped(code)}'" if count == 1 else f"{count} chunks '{escaped(code)}'")
+             + (' of the list of titles' if inner else '') for (code, inner), count in [*counted.items()][:20]]
     return [f'tronalhet: {name}: left out: {", ".join(words)}'] if words else []
 
 

@@ -165,7 +165,8 @@ def several_names():
 
 def closed_streams():
     """A closed standard output is trouble, and nothing is done; a closed standard input cannot be read."""
-    calls = [['--help'], ['--version'], *reading('song.wav'), *writing('new.wav'), *replacing('old'), IN_PLACE]
+    calls = [['--help'], ['--version'], *reading('song.wav'), *writing('new.wav'), *replacing('old'), IN_PLACE,
+             ['title', 'side.wav', 'Song', '--number=7']]
     for words in calls:
         with holding({**FILES, 'old': b'old'}) as folder:
             before = kept(folder)

@@ -6,8 +6,9 @@ import shutil
 import time
 
 from host.run import ADDED, ADDED_SONG, DECODED, FILES, HOST, IN_PLACE, NEW, OTHER, added, parts
+from host.titles import with_titles
 from trying import EMPTY, SONG, expect, holding, kept, opened, printed, put, run, start
-from second import side as second_side
+from second import reader as second_reader, side as second_side
 from vectors import side_files
 from vectors.wave_files import chunk, fmt, wave
 
@@ -83,7 +84,7 @@ def while_locked(label, words, wanted, meanwhile=lambda folder: None):
             said = waiting.stderr.readline()
             time.sleep(0.3)
             expect(f'{label}, what is said and done before', (said[:35], waiting.poll(), kept(folder)),
-                   ('tronalhet: waiting for another add ', None, before))
+                   ('tronalhet: waiting for another add,', None, before))
             meanwhile(folder)
             after = {**kept(folder), **wanted[2]}
             os.close(held)
@@ -93,10 +94,16 @@ def while_locked(label, words, wanted, meanwhile=lambda folder: None):
 
 
 def waits():
-    """An add and a new side wait for others in the folder where they write, also where a link leads there."""
+    """An add, a title and a new side wait for others in the folder where they write, also where a link leads there."""
     lines, made = ADDED_SONG
     for side in ('side.wav', './folder/../side.wav', 'folder/link'):
         while_locked(f'add to {side}', ['add', side, 'song.wav', *ADDED], (0, printed(lines), {'side.wav': made}))
+    for side in ('side.wav', 'folder/link'):
+        words = ['title', side, 'Song', '--number=7']
+        titled = with_titles(made, [(0, 7, b'Song\0')])
+        while_locked(f'a title on {side}', words, (0, printed(['cue 7', 'label Song', f'bytes {len(titled)}']),
+                                                   {'side.wav': titled}),
+                     lambda folder: put(folder / 'side.wav', made))
     while_locked('add to a new file', [*IN_PLACE, '--out=new.wav'], (0, printed(lines), {'new.wav': made}))
     while_locked('a new side', ['new-side', 'new.wav', *NEW], (0, 'bytes 44\n', {'new.wav': EMPTY}))
     while_locked('a new side whose name is taken', ['new-side', 'new.wav', *NEW], (74, '', {}),
@@ -133,9 +140,26 @@ def all_at_once(commands, folder):
 
 
 def ten_adds():
-    """Ten adds at the same moment, ten times: what could go wrong takes a moment that is not always hit."""
+    """Ten adds at the same moment, ten times: what could go wrong takes a moment that is not always hit. The same of
+    titles."""
     for _ in range(10):
         ten_songs()
+        ten_titles()
+
+
+def ten_titles():
+    """Five songs are given their titles at the same moment as five others are added: no title and no song is lost."""
+    with holding({'side.wav': side_files.side(*[(number, 3) for number in range(5)])}) as folder:
+        for number in range(5, 10):
+            put(folder / f'{number}.wav', side_files.song(3, number))
+        calls = [['title', 'side.wav', f'Song {number}', '--number', number] for number in range(5)]
+        calls += [['add', 'side.wav', f'{number}.wav', '--number', number, '--limit=99'] for number in range(5, 10)]
+        expect('titles and adds, how they end', all_at_once(calls[::2] + calls[1::2], folder), [0] * 10)
+        made = (folder / 'side.wav').read_bytes()
+        expect('titles and adds, the titles', sorted(second_reader.titles(made)),
+               [(0, number, b'Song %d\0' % number) for number in range(5)])
+        expect('titles and adds, the songs', sorted(song.number for song in second_side.songs(made)), [*range(10)])
+        expect('titles and adds, what is left', parts(folder), [])
 
 
 def ten_songs():

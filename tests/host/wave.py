@@ -5,6 +5,7 @@
 """
 import os
 import re
+import shlex
 import sys
 import tempfile
 import textwrap
@@ -38,7 +39,7 @@ def options_of(words):
     """The words of a call, and the values of its options; flags are left out."""
     plain, options, words = [], {}, iter(words)
     for word in words:
-        if word in ('--sound', '--replace', '--backup', '--json'):
+        if word in ('--sound', '--remove', '--replace', '--backup', '--json'):
             continue
         if word.startswith('--'):
             options[word] = next(words)
@@ -100,10 +101,13 @@ def demonstration():
 
 def shown_calls():
     """The calls whose answers README.md shows, with what they say."""
-    twice = wave(fmt(), cue(point(101, 0), point(101, 1)), data())
-    with holding({'side.wav': twice}) as folder:
-        for words in ('demo', 'help', 'check side.wav'):
-            _, shown, said = run([*WAVE, *words.split()], folder)
+    twice, side = wave(fmt(), cue(point(101, 0), point(101, 1)), data()), EMPTY
+    for number, name in ((101, 'harbour-song.wav'), (102, 'school-song.wav')):
+        side = answer(second_command.add, side, make.files()[name], number, 4000)[1]
+    for words, file in (('demo', b''), ('help', b''), ('check side.wav', twice),
+                        ("title side.wav --number 101 'Harbour Song'", side)):
+        with holding({'side.wav': file}) as folder:
+            _, shown, said = run([*WAVE, *shlex.split(words)], folder)
             yield words, shown + said
 
 
@@ -111,7 +115,7 @@ def refreshed(text):
     """README.md with what ./wave really says after each of these calls."""
     for words, said in shown_calls():
         block = textwrap.indent(f'$ ./wave {words}\n{said}', '    ')
-        found = re.compile(rf'^    \$ \./wave {words}\n(?:    .*\n|\n(?=    ))*', re.M)
+        found = re.compile(rf'^    \$ \./wave {re.escape(words)}\n(?:    .*\n|\n(?=    ))*', re.M)
         text, count = found.subn(lambda _, block=block: block, text)
         expect(f'how often README.md shows ./wave {words}', count, 1)
     return text

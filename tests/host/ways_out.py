@@ -8,7 +8,8 @@ from host.places import refusal_of
 from host.run import HOST, MEANINGS, tells
 from trying import tried
 from vectors import side_files
-from vectors.wave_files import chunk, cue, data, entry, fact, fmt, ima, microsoft, plst, point, unpadded, wave
+from vectors.wave_files import (adtl, chunk, cue, data, entry, fact, fmt, ima, labl, microsoft, plst, point, unpadded,
+                                wave)
 
 AGAIN = 'ask for the file again'
 
@@ -108,8 +109,15 @@ def others():
     yield 'a cue at F', wave(fmt(), cue(point(7, 4)), data()), f'without its cues: {sox()}'
     yield 'a cue at F, and a playlist', wave(fmt(), cue(point(7, 4)), plst(), data()), None
     yield 'an entry for no cue', wave(fmt(), plst(entry(7, 4)), data()), None
+    cues, titles = cue(point(7, 0)), adtl(labl(9, b'Song'))
+    yield 'a title of no cue', wave(fmt(), cues, titles, data()), f'without its cues and its titles: {sox()}'
+    yield 'two lists of titles', wave(fmt(), adtl(), data(), adtl()), f'without its titles: {sox()}'
+    yield 'a title of no cue, and a playlist', wave(fmt(), cues, plst(), titles, data()), \
+        'use an earlier copy of the file'
     for lost, tables in (('its cues', [cue()]), ('its playlist', [plst()]),
-                         ('its cues and its playlist', [cue(), plst()])):
+                         ('its cues and its playlist', [cue(), plst()]), ('its titles', [adtl()]),
+                         ('its cues and its titles', [cue(), titles]),
+                         ('its cues, its playlist and its titles', [adtl(), cue(), plst()])):
         yield f'24 bits, and {lost}', wave(fmt(bits=24), *tables, data(6)), f'without {lost}: {sox()}'
     both = wave(fmt(), cue(), plst(), data(), size=0)
     yield 'R 0, with tables', both, f'to write the sizes anew, without its cues and its playlist: {sox()}'
@@ -144,6 +152,8 @@ def ways_to_side():
             ('MP3', side, b'ID3\4' + bytes(40), 5, 99, 2,
              'with libsox-fmt-mp3: ' + sox(before=' -t mp3', after=' -r 8000 -c 1', **made)),
             ('m4a', side, b'\0\0\0\x1cftypM4A ', 5, 99, 2, ffmpeg(after=' -ar 8000 -ac 1', **made)),
+            ('a wrong title', side, wave(fmt(), cue(point(7, 0)), plst(), adtl(labl(9, b'')), data()), 5, 99, 21,
+             f'without its cues, its playlist and its titles: {fits}'),
             ('MP3 for no side', b'no side', b'ID3\4' + bytes(40), 5, 99, 2,
              'with libsox-fmt-mp3: ' + sox(name='song.wav', before=' -t mp3', to='song-16bit.wav')),
             ('8 bits', side, song(bits=8), 5, 99, 9, "tronalhet decode 'song.wav' 'song-for-side.wav'"),
@@ -161,6 +171,8 @@ def ways_to_side():
             ('a song as a side', song(), song(), 5, 99, 19,
              'start a side for it: tronalhet new-side SIDE --channels 1 --rate 8000'),
             ('no side', wave(fmt(), cue(point(7, 1)), data()), song(), 5, 99, 19, None),
+            ('a side with a wrong title', side_files.labelled(labl(9, b'')), song(), 5, 99, 19,
+             'use an earlier copy of the side'),
             ('a broken side', side[:-2], song(), 5, 99, 19, 'use an earlier copy of the side')):
         words = ['add', 'side.wav', 'song.wav', '--number', number, '--limit', limit]
         offers(f'add, {label}', words, {'side.wav': there, 'song.wav': sent}, refusal, line)

@@ -10,11 +10,15 @@ import shutil
 import subprocess
 
 from host.run import DECODED, FILES, HOST, IN_PLACE, NATIVE, NEW, PART, STEREO, parts, replacing, writing
+from host.titles import BARE
 from host.trouble import trouble
 from trying import SONG, expect, holding, kept, limited, printed, put, run
 from second import command as second_command
 from second.command import answer
 from vectors.wave_files import chunk, data, wave
+
+
+TITLE = ['title', 'side.wav', 'Song', '--number=7']
 
 
 def full_disk():
@@ -29,6 +33,8 @@ def full_disk():
                 **limited(resource.RLIMIT_FSIZE, 500))
     trouble('add in place on a full disk', IN_PLACE, FILES, f'cannot write side.wav: {reason}',
             **limited(resource.RLIMIT_FSIZE, 500))
+    trouble('a title on a full disk', TITLE, {'side.wav': BARE}, f'cannot write side.wav: {reason}',
+            **limited(resource.RLIMIT_FSIZE, len(BARE) - 1))
     trouble('a new side on a full disk', ['new-side', 'new.wav', *NEW], FILES, f'cannot write new.wav: {reason}',
             **limited(resource.RLIMIT_FSIZE, 43))
 
@@ -132,7 +138,8 @@ def flushed():
     with holding(FILES) as folder:
         if not NATIVE or not shutil.which('strace') or run([*watch, 'true'], folder)[0] != 0:
             return
-        for words in [*replacing('song2.wav'), *writing('new.wav')[:1], IN_PLACE, ['new-side', 'newer.wav', *NEW]]:
+        for words in [*replacing('song2.wav'), *writing('new.wav')[:1], IN_PLACE, TITLE,
+                      ['new-side', 'newer.wav', *NEW]]:
             put(folder / 'song2.wav', SONG)
             status, _, _ = run([*watch, *HOST, *words], folder)
             calls = [(call[:6], file) for call, file in calls_in((folder / 'log').read_text())]
