@@ -367,31 +367,23 @@ fn no_such_cue(name: &OsStr, record: &Record, cue: Donation) -> Stop {
     no_title(name, cue, "there is no such cue".into(), way_out)
 }
 
-/// Why titles were not written.
+/// Why titles were not written: a text is too long, or the new file would be.
 fn not_titled(name: &OsStr, file: &[u8], new: &Record, cue: Donation, fault: Fault) -> Stop {
-    let wrong = |title: &&Title| title.text.len() > MOST_TEXT || title.text.contains(&0);
-    match (fault, new.titles_of(cue).find(wrong)) {
-        (Fault::Refused(Refusal::TitlesWrong), Some(title)) => {
-            let over = title.text.len().saturating_sub(MOST_TEXT);
-            let (what, way_out) = match over {
-                0 => ("has a zero byte".into(), "leave out the zero byte".into()),
-                _ => (format!("has {} bytes, and {MOST_TEXT} are the most", title.text.len()), shorter(over)),
-            };
-            no_title(name, cue, format!("its {} {what}", kind_of(title)), way_out)
-        }
+    let long = new.titles_of(cue).find(|title| title.text.len() > MOST_TEXT);
+    match (fault, long) {
+        (Fault::Refused(Refusal::TitlesWrong), Some(title)) => too_long(name, title),
         (Fault::Refused(refusal @ Refusal::LengthOutOfRange), _) => {
-            let sound = tronalhet::sound_of(file).map_or(0, <[u8]>::len);
-            let bytes = new.file_bytes(sound);
-            Stop::of_call(
-                name,
-                refusal,
-                format!("its new file would have {bytes} bytes, and {MOST_BYTES} are the most"),
-            )
+            let bytes = new.file_bytes(tronalhet::sound_of(file).map_or(0, <[u8]>::len));
+            let what = format!("its new file would have {bytes} bytes, and {MOST_BYTES} are the most");
+            Stop::of_call(name, refusal, what)
         }
         _ => Stop::of_file(name, file, fault),
     }
 }
 
-fn shorter(over: usize) -> String {
-    format!("make it shorter by {}; a letter may have several", counted(over as u64, "byte", "bytes"))
+fn too_long(name: &OsStr, title: &Title) -> Stop {
+    let bytes = title.text.len();
+    let what = format!("its {} would have {bytes} bytes, and {MOST_TEXT} are the most", kind_of(title));
+    let over = counted((bytes - MOST_TEXT) as u64, "byte", "bytes");
+    no_title(name, title.cue, what, format!("make it shorter by {over}; a letter may have several"))
 }

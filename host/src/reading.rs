@@ -12,8 +12,8 @@ use tronalhet::{Refusal, Room, MOST_BYTES};
 /// A file up to this length is read whole, which is as quick.
 const SHORT: usize = 1 << 16;
 
-/// A chunk's head, and more of its data than reading ever looks at: a table of 64 cues has 1,540 bytes. Only a list of
-/// titles is read whole.
+/// A chunk's head, and more of its data than reading ever looks at, but for a list of titles: a table of 64 cues has
+/// 1,540 bytes.
 const LOOKED_AT: usize = 4096;
 
 /// How much is read on where chunks are so short that one follows in what was read.
@@ -150,8 +150,9 @@ fn heads_of(name: &OsStr, opened: &Opened, size: usize) -> Result<Room<u8>, Stop
     Ok(room)
 }
 
-/// Reads the head of a file and the start of each chunk to where they stand. Reading goes from chunk to chunk and looks
-/// no further into one, so to it this is the whole file; what is left out takes no time and no memory.
+/// Reads the head of a file and the start of each chunk to where they stand, and all of a list of titles. Reading goes
+/// from chunk to chunk and looks no further into one, so to it this is the whole file; what is left out takes no time
+/// and no memory.
 fn heads(file: &File, start: u64, room: &mut [u8]) -> io::Result<()> {
     let mut heads = Heads { file, start, room, there: 0 };
     let mut next = 0;

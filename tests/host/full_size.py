@@ -109,24 +109,27 @@ def streams(folder):
 
 
 def too_long(folder):
-    """Refusal 1 for what would be made: a side with a song more, a sound in 16 bits, a copy of too many samples."""
+    """Refusal 1 for what would be made: a side with a song more, a sound in 16 bits, a copy of too many samples, a file
+    with a title."""
     size = 540000000
     tables = cue(point(7, 0)) + plst(entry(7, (size - 104) // 2))
     for name, head in (('eight.wav', head_of(size)), ('side.wav', head_of(size, 16, tables)),
                        ('song.wav', head_of(size, 16))):
         sparse(folder / name, size, head)
+    sparse(folder / 'most.wav', MOST, head_of(MOST, 16, cue(point(7, 0))))
     # With a song more the tables grow by 36 bytes; the file of the song has 44 beside the sound.
     for words, read, number in ((['decode', 'eight.wav', 'new.wav'], size, 2 * (size - 44) + 44),
                                 (['encode', 'eight.wav', 'new.wav'], size, size - 44),
                                 (['add', 'side.wav', 'song.wav', '--number=8', f'--limit={size}'], 2 * size,
-                                 size + 36 + size - 44)):
+                                 size + 36 + size - 44),
+                                (['title', 'most.wav', 'Song', '--number=7'], MOST, MOST + 30)):
         status, (answered,) = measured(f'{words}', [*words, '--json'], folder, read + SPARE)
         told = json.loads(answered)
         expect(f'{words}', (status, told['refused']), (1, 1))
         # Where the host says why, it is by the length that is too long.
         what = told.get('where', {'what': str(number)})['what']
         expect(f'{words}, whether "{what}" has {number}', str(number) in what, True)
-    emptied('too long', folder, ['eight.wav', 'side.wav', 'song.wav'])
+    emptied('too long', folder, ['eight.wav', 'side.wav', 'song.wav', 'most.wav'])
 
 
 def in_parts(folder):
@@ -211,6 +214,18 @@ def refilled(folder):
     expect('the file of the full side', [after.st_ino, after.st_size, after.st_mtime_ns, after.st_ctime_ns],
            [before.st_ino, before.st_size, before.st_mtime_ns, before.st_ctime_ns])
     expect('the part of the full side that is wrong then', unlike(folder), None)
+
+
+def titled(folder):
+    """A song of the full side is given a title; when that is removed, the side is what it was."""
+    size = (folder / 'side.wav').stat().st_size
+    for words, said, more in ((['Song', '--number=300'], ['label Song'], 30), (['--remove', '--number=300'], [], 0)):
+        label = f'a full side, title {words}'
+        expect(label, measured(label, ['title', 'side.wav', *words], folder, 2 * size + SPARE),
+               (0, ['cue 300', *said, f'bytes {size + more}']))
+        expect(f'{label}, its length', (folder / 'side.wav').stat().st_size, size + more)
+        expect(f'{label}, whether it is accepted', run([*HOST, 'check', 'side.wav'], folder), (0, 'accepted\n', ''))
+    expect('the part of the full side that is wrong after its titles', unlike(folder), None)
 
 
 def some_frames(path, at, frames):
@@ -332,5 +347,6 @@ def outlived(folder):
 def full_size():
     """Files as long as they may be, or nearly, in a folder of their own."""
     with tempfile.TemporaryDirectory(dir=room_for_files()) as name:
-        for part in (at_the_limit, streams, too_long, in_parts, filled, refilled, copied, interrupted, outlived):
+        for part in (at_the_limit, streams, too_long, in_parts, filled, refilled, titled, copied, interrupted,
+                     outlived):
             attempted(part, pathlib.Path(name))

@@ -13,7 +13,7 @@ from host.run import (ADDED, ADDED_SONG, DECODED, FILES, HOST, IN_PLACE, NATIVE,
 from trying import EMPTY, ROOT, SONG, expect, holding, kept, limited, printed, put, run, tried
 from second import command as second_command, reader as second_reader
 from second.command import answer
-from vectors.wave_files import data, fmt, wave
+from vectors.wave_files import cue, data, fmt, point, wave
 
 
 def trouble(label, words, files, *said, **options):
@@ -62,7 +62,7 @@ def special_files():
     with holding(FILES) as folder, socket.socket(socket.AF_UNIX) as end:
         os.mkfifo(folder / 'pipe')
         end.bind(f'{folder}/socket')
-        for words in [*writing('pipe'), *writing('socket'), ['list', 'socket']]:
+        for words in [*writing('pipe'), *writing('socket'), ['list', 'socket'], ['title', 'pipe', 'a', '--number=7']]:
             status, shown, said = run([*HOST, *words], folder, timeout=60)
             expect(f'{words}', (status, shown, said.count('\n')), (74, '', 1))
         special = sorted(path.name for path in folder.iterdir() if not path.is_file())
@@ -239,10 +239,11 @@ def no_memory():
     """Where memory is lacking it is trouble and no crash, however much is there, until there is enough."""
     if not NATIVE:
         return
-    files = {'file.wav': wave(fmt(bits=8), data(20000000)), 'side.wav': EMPTY, 'old.wav': b'old'}
+    files = {'file.wav': wave(fmt(bits=8), cue(point(7, 0)), data(20000000)), 'side.wav': EMPTY, 'old.wav': b'old'}
     for words, enough in ((['list', 'file.wav'], 0), (['decode', 'file.wav', 'old.wav', '--replace'], 0),
                           (['encode', 'file.wav', 'old.wav', '--replace'], 0),
-                          (['add', 'side.wav', 'file.wav', *ADDED], 9)):
+                          (['add', 'side.wav', 'file.wav', *ADDED], 9),
+                          (['title', 'file.wav', 'Song', '--number=7'], 0)):
         with holding(files) as folder:
             status, ended = 74, []
             for size in range(8 << 20, 200 << 20, 4 << 20):
