@@ -132,6 +132,15 @@ module _ (d : Directory) {x y : Reading} (e : x ≡ y) (h : x .verdict ≡ Accep
   pub titles-taken : d .titles ≡ spotBy titlesFrom (y .verdict) (Whole d)
   titles-taken = spot-taken titlesFrom d e h
 
-pub ruleset whole =
-    (whole-limit, read-stopped, read-whole, sound-stopped, titles-stopped, sound-whole, titles-whole, spot-refused, sound-taken,
-    titles-taken)
+pub ruleset whole = (
+  whole-limit,
+  read-stopped,
+  read-whole,
+  sound-stopped,
+  titles-stopped,
+  sound-whole,
+  titles-whole,
+  spot-refused,
+  sound-taken,
+  titles-taken,
+)

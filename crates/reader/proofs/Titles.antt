@@ -35,12 +35,12 @@ use Rattle.titles.specs.declared.ListRead.{ListRead}
 use Rattle.titles.specs.Titles.{Entry, firstEntries, entriesOf, eachRule, namesBy, entriesRule, textsOf, textsEnd, noTitles}
 use Rattle.titles.specs.Lists.{entriesIn, listForm, listValid, titlesOf, listRead}
 use Rattle.titles.specs.Writing.{inRow, titlesRight}
-use Rattle.titles.proofs.Round.{none-in, none-texts, none-titles, none-valid, valid-form, valid-rule, valid-count, valid-ends, valid-there, valid-whole, valid-right, titles-many, texts-bytes as list-texts-bytes}
+use Rattle.titles.proofs.Round.{none-in, none-texts, none-titles, none-valid, valid-form, valid-rule, valid-count, valid-ends, valid-there, valid-whole, valid-right, titles-many, texts-bytes as list-texts-bytes, texts-most as list-texts-most}
 use Rattle.rules.specs.declared.Record.{Record}
 use Rattle.rules.specs.declared.Reading.{Reading}
 use Rattle.rules.specs.Rules.{ChunkBytes, recordOf, withTitles, chunkChecks, verdictOf, turnedAway, readingBy, judged}
 use Rattle.reader.specs.Content.{Content, contentBy, soundPart, titlesPart, chunksAt, recordAt, titlesValid, chunksChecks, listed, judgedAt, checksAt, verdictAt, contentIn, contentOf, readingOf, reading, spotBy, soundFrom, soundSpot, titlesFrom, titlesSpot, titlesIn, textsIn, readingIn}
-use Rattle.reader.specs.Demands.{Refusing, TitlesTold}
+use Rattle.reader.specs.Demands.{Refusing, TextsMost, TitlesTold}
 use Rattle.reader.proofs.Demands.{by-file, refusing}
 use Rattle.reader.proofs.Kept.{Held, formed, titles-valid}
 
@@ -309,3 +309,9 @@ titles-count s = ap (λ (t : Titles). t .count) (titles-made s) ∙ titles-many 
 pub texts-bytes : (s : List ℕ) → T (areBytes s) → T (areBytes (textsIn s))
 unfolding titlesIn
 texts-bytes s b = list-texts-bytes (partOf s (titlesSpot s) []) (part-bytes s (titlesSpot s) [] b tt)
+
+pub texts-within : TextsMost
+unfolding TextsMost
+texts-within s =
+    list-texts-most (namesIn (reading s .made .cues)) (titlesIn s) (read-rule s)
+    (omega (arith, texts-known s .few, titles-count s))

@@ -77,6 +77,10 @@ pub record ZeroAfter (m : Record) : Type 0 where
 unfoldable pub ZeroPast : Type 0
 ZeroPast = (s : List ℕ) → ZeroAfter (reading s .made)
 
+-- ---- no file needs more than 32,768 bytes for its texts: 128 of 256
+unfoldable pub TextsMost : Type 0
+TextsMost = (s : List ℕ) → length (textsIn s) ≤ 32768
+
 -- ---- the titles of a record, with their texts in a buffer that has those of the file from its start, are the titles of its list
 unfoldable pub TitlesTold : Type 0
 TitlesTold = (s rest : List ℕ) → entriesOf (textsIn s ++ rest) (reading s .made .titles) ≡ titlesIn s

@@ -314,7 +314,14 @@ fn grow(
 
 // Writes a side, whose titles and texts are those of a list and whose sound comes in two parts. The texts go
 // from the list to the new file as they stand, with no buffer between.
-fn join(made: Record, list: &[u8], lost: bool, sound: &[u8], added: &[u8], out: &mut [u8]) -> Written
+fn join(
+    made: Record,
+    list: &[u8],
+    lost: bool,
+    sound: &[u8],
+    added: &[u8],
+    out: &mut [u8],
+) -> Written
     requires { ⌜ Carried made (now list) lost ⌝ }
     ensures answer { λ r. ⌜ r ≡ writing made (textsOf (entriesIn (now (list .entry))))
         (now (sound .entry) ++ now (added .entry)) (length (now (out .entry))) ⌝ }

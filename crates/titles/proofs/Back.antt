@@ -29,12 +29,12 @@ use Rattle.titles.specs.Lists.{frontKind, frontEntry, frontRest, withEnt
 use Rattle.titles.specs.Writing.{codeOf, pieceOf, listBytes}
 use Rattle.titles.proofs.Walking.{entries-one, entries-none, tiles-one, tiles-none, next-within}
 
--- the numbers of an entry fit the fields that they are written to, and its text the size that a title can have
+-- the numbers of an entry fit the fields that they are written to, the size of its chunk among them
 pub record EntryFits (e : Entry) : Type 0 where
   pub kind : e .kind < 2
   pub name : e .name < 4294967296
   pub some : 1 ≤ length (e .text)
-  pub short : length (e .text) ≤ 256
+  pub long : length (e .text) ≤ 1073741824
 
 -- ---- one entry at the front
 module _ (e : Entry) (f : EntryFits e) (rest : List ℕ) where
@@ -52,7 +52,7 @@ module _ (e : Entry) (f : EntryFits e) (rest : List ℕ) where
   bytes-long = length-append (bytesOf 4 (e .name)) (e .text) ∙ omega (arith, length-bytes 4 (e .name))
 
   said-size : sizeAt l 0 ≡ length (e .text) + 4
-  said-size = size-there l 0 (codeOf (e .kind)) bytes rest laid (omega (arith, bytes-long, f .short)) ∙ bytes-long
+  said-size = size-there l 0 (codeOf (e .kind)) bytes rest laid (omega (arith, bytes-long, f .long)) ∙ bytes-long
 
   said-kind : frontKind l ≡ e .kind
   unfolding frontKind codeBytes sameBytes
@@ -109,11 +109,11 @@ module _ (e : Entry) (f : EntryFits e) (rest : List ℕ) where
           absurd (omega (arith, eqb-true (8 + sizeAt l 0) (length l) h, long-enough))
       by false false g h = refl
 
-  pub said-fits : (lost : Bool) → frontFits lost l ≡ true
+  pub said-fits : (lost : Bool) → length (e .text) ≤ 256 → frontFits lost l ≡ true
   unfolding frontFits sizeFits
-  said-fits lost =
+  said-fits lost h =
       let a : 5 ≤ sizeAt l 0 = omega (arith, said-size, f .some) in
-      let b : sizeAt l 0 ≤ 260 = omega (arith, said-size, f .short) in
+      let b : sizeAt l 0 ≤ 260 = omega (arith, said-size) in
       simp (said-whole, padded lost, said-kind, lt-ltb (e .kind) 2 (f .kind), le-leb 5 (sizeAt l 0) a, le-leb (sizeAt l 0) 260 b)
 
 -- ---- all of them
@@ -122,6 +122,10 @@ AllFit es = (i : ℕ) → i < length es → EntryFits (getD es i noEntry)
 
 others-fit : (e : Entry) (es : List Entry) → AllFit (e ∷ es) → AllFit es
 others-fit e es f i h = f (suc i) (omega arith)
+
+-- no text is too long
+abbrev pub AllShort : List Entry → Type 0
+AllShort es = (i : ℕ) → i < length es → length (getD es i noEntry .text) ≤ 256
 
 body-back : (es : List Entry) (n : ℕ) → AllFit es → length (bodyBytes (map pieceOf es)) ≤ n → entriesBy n (bodyBytes (map pieceOf es)) ≡ es
 unfolding bodyBytes
@@ -138,17 +142,17 @@ body-back (e ∷ es) (suc n) f h =
     ∙ one
     ∙ ap (λ (l : List Entry). e ∷ l) (body-back es n (others-fit e es f) (omega (arith, length-body (pieceOf e) (map pieceOf es))))
 
-body-tiles : (lost : Bool) (es : List Entry) (n : ℕ) → AllFit es → tilesBy lost n (bodyBytes (map pieceOf es)) ≡ true
+body-tiles : (lost : Bool) (es : List Entry) (n : ℕ) → AllFit es → AllShort es → tilesBy lost n (bodyBytes (map pieceOf es)) ≡ true
 unfolding bodyBytes tilesBy
-body-tiles lost es zero f = refl
-body-tiles lost [] (suc n) f = tiles-none lost (suc n)
-body-tiles lost (e ∷ es) (suc n) f =
+body-tiles lost es zero f o = refl
+body-tiles lost [] (suc n) f o = tiles-none lost (suc n)
+body-tiles lost (e ∷ es) (suc n) f o =
     let rest : List ℕ = bodyBytes (map pieceOf es) in
     let g = f 0 (omega arith) in
     let some : 0 < length (pieceBytes (pieceOf e) ++ rest) = omega (arith, long-enough e g rest) in
-    tiles-one (pieceBytes (pieceOf e) ++ rest) lost n some (said-fits e g rest lost)
+    tiles-one (pieceBytes (pieceOf e) ++ rest) lost n some (said-fits e g rest lost (o 0 (omega arith)))
     ∙ ap (tilesBy lost n) (said-rest e g rest)
-    ∙ body-tiles lost es n (others-fit e es f)
+    ∙ body-tiles lost es n (others-fit e es f) (λ i h. o (suc i) (omega arith))
 
 module _ (es : List Entry) (f : AllFit es) where
   behind-code : drop 4 (listBytes es) ≡ bodyBytes (map pieceOf es)
@@ -163,10 +167,10 @@ module _ (es : List Entry) (f : AllFit es) where
   unfolding entriesIn
   entries-back = ap (entriesBy (length (listBytes es))) behind-code ∙ body-back es (length (listBytes es)) f body-shorter
 
-  pub list-written : (lost : Bool) → length es ≤ 128 → listForm lost (listBytes es) ≡ true
+  pub list-written : (lost : Bool) → AllShort es → length es ≤ 128 → listForm lost (listBytes es) ≡ true
   unfolding listForm tiles
-  list-written lost h =
+  list-written lost o h =
       let t : tilesBy lost (length (listBytes es)) (drop 4 (listBytes es)) ≡ true =
-      ap (tilesBy lost (length (listBytes es))) behind-code ∙ body-tiles lost es (length (listBytes es)) f in
+      ap (tilesBy lost (length (listBytes es))) behind-code ∙ body-tiles lost es (length (listBytes es)) f o in
       let n : length (entriesIn (listBytes es)) ≤ 128 = omega (arith, ap length entries-back) in
       simp (t, le-leb (length (entriesIn (listBytes es))) 128 n)

@@ -1,9 +1,9 @@
 -- There and back: titles that may be written are read back of their list, with their texts; and the titles of a list that is valid may be
 -- written again, in a list that is not longer, also with one cue more. Assumes nothing.
 use mathlib.Core.Path.{_≡_, refl, sym, ap, _∙_, subst}
-use mathlib.Core.Bool.{Bool, true, false, cond, _&&_}
+use mathlib.Core.Bool.{Bool, true, false, cond, _&&_, and-false}
 use mathlib.Core.List.{List, [], _∷_, _++_, map, append-nil}
-use Prim.Native.Nat.{ℕ, zero, suc, _+_, _-_, _%_, _≤_, _<_, min}
+use Prim.Native.Nat.{ℕ, zero, suc, _+_, _-_, _*_, _%_, _≤_, _<_, min}
 use native.Mathlib.Omega.{arith}
 use lib.Dec.{T, ltb, leb, lit<}
 use lib.Pow.{areBytes}
@@ -29,12 +29,12 @@ use Rattle.titles.specs.declared.Title.{Title}
 use Rattle.titles.specs.declared.Titles.{Titles}
 use Rattle.titles.specs.Titles.{Entry, noEntry, entryIn, firstEntries, entriesOf, closed, entryRule, eachRule, namesBy, entriesRule, textOf, textsOf, placedFrom, noTitle, noTitles, tableOf, tableFor, textsEnd}
 use Rattle.titles.specs.Lists.{frontKind, frontEntry, frontRest, withEntry, entriesBy, entriesIn, frontFits, tilesBy, tiles, listForm, listValid, titlesOf, Stands}
-use Rattle.titles.specs.Writing.{codeOf, pieceOf, listBytes, inRow, titlesRight, titlesKept, TitlesFit, Short}
+use Rattle.titles.specs.Writing.{codeOf, pieceOf, listBytes, inRow, titlesRight, titlesKept, TitlesFit, Short, listPart, Sayable}
 use Rattle.titles.proofs.Entries.{entries-long, entry-at}
 use Rattle.titles.proofs.Walking.{title-size, fits-all, within, entries-none}
 use Rattle.titles.proofs.Lists.{entry-kept, Kept, rule-kept}
-use Rattle.titles.proofs.Texts.{NoneEmpty, placed-long, placed-row, row-placed, ends-placed, texts-back}
-use Rattle.titles.proofs.Back.{EntryFits, AllFit, entries-back, list-written}
+use Rattle.titles.proofs.Texts.{NoneEmpty, row-long, placed-long, placed-row, row-placed, ends-placed, texts-back}
+use Rattle.titles.proofs.Back.{EntryFits, AllFit, AllShort, entries-back, list-written}
 
 -- ---- titles that may be written
 module _ (names s : List ℕ) (t : Titles) (fit : TitlesFit t) (e : titlesRight names s t ≡ true) where
@@ -64,7 +64,7 @@ module _ (names s : List ℕ) (t : Titles) (fit : TitlesFit t) (e : titlesRight 
   fits i h =
       let k = kept i h in
       let n : getD es i noEntry .name ≡ getD (t .list) i noTitle .name .0 = ap (λ (x : Entry). x .name) (at-place i (omega (arith, many))) in
-      record { kind = k .kind; name = omega (arith, fit .name i); some = k .some; short = k .short }
+      record { kind = k .kind; name = omega (arith, fit .name i); some = k .some; long = omega (arith, k .short) }
 
   pub right-short : Short s (t .list) (t .count)
   right-short =
@@ -85,7 +85,7 @@ module _ (names s : List ℕ) (t : Titles) (fit : TitlesFit t) (e : titlesRight 
   unfolding listValid
   round-valid lost =
       let r : entriesRule names (entriesIn (listBytes es)) ≡ true = ap (entriesRule names) round-entries ∙ right-both .1 in
-      simp (list-written es fits lost (omega (arith, many, few)), r)
+      simp (list-written es fits lost (λ i h. kept i h .short) (omega (arith, many, few)), r)
 
 -- ---- titles that stand in a list whose titles keep the rule are short
 pub rule-of : (names s : List ℕ) (t : Titles) → titlesRight names s t ≡ true → entriesRule names (entriesOf s t) ≡ true
@@ -117,6 +117,10 @@ no-entries s t h = let e : t .count ≡ 0 = omega arith in ap (λ (n : ℕ). map
 pub none-kept : (t : Titles) → t .count < 1 → titlesKept t ≡ noTitles
 unfolding titlesKept tableOf
 none-kept t h = let e : t .count ≡ 0 = omega arith in ap (λ (n : ℕ). tableOf (take n (t .list))) e
+
+pub no-list : length (listBytes []) ≡ 4
+unfolding listBytes bodyBytes codeBytes
+no-list = refl
 
 -- how many titles a table has that is read
 pub titles-many : (l : List ℕ) → titlesOf l .count ≡ length (entriesIn l)
@@ -304,8 +308,14 @@ unfolding tiles entriesIn listBytes
 not-longer lost l t h =
     let body : List ℕ = bodyBytes (map pieceOf (entriesBy (length l) (drop 4 l))) in
     let m : (length l - 4) % 2 ≡ length l % 2 = omega arith in
-    omega (arith, length-append (codeBytes code.Titles) body, length-code code.Titles, chunks-shorter lost (length l) (drop 4 l) t, length-drop 4 l,
-      ap (λ (k : ℕ). k % 2) (length-drop 4 l))
+    omega (
+      arith,
+      length-append (codeBytes code.Titles) body,
+      length-code code.Titles,
+      chunks-shorter lost (length l) (drop 4 l) t,
+      length-drop 4 l,
+      ap (λ (k : ℕ). k % 2) (length-drop 4 l),
+    )
 
 -- a list with a title has more than its four letters
 some-long : (l : List ℕ) → 1 ≤ length (entriesIn l) → 4 ≤ length l
@@ -378,3 +388,66 @@ stands-short names l t k {es} r e few =
           (ap (λ (xs : List Entry). getD xs i noEntry) (sym (k .entries ∙ e)) ∙ entry-at l (t .list) (t .count) (omega (arith, k .room)) i h)
           (rule-kept names (getD es i noEntry) (entry-kept names es r i (omega (arith, k .many, ap length e))) .short);
     }
+
+-- ---- titles that may not be written: a list says their fault where it is one of a text, a name or a title too many of a cue. It does
+-- not say where their texts stood, what it has no room for, and a kind that is neither of the two
+text-within : (es : List Entry) (i : ℕ) → i < length es → length (getD es i noEntry .text) ≤ length (bodyBytes (map pieceOf es))
+unfolding bodyBytes pieceOf
+text-within [] i h = absurd (omega arith)
+text-within (e ∷ es) zero h =
+    omega (arith, length-body (pieceOf e) (map pieceOf es), length-append (bytesOf 4 (e .name)) (e .text))
+text-within (e ∷ es) (suc i) h = omega (arith, length-body (pieceOf e) (map pieceOf es), text-within es i (omega arith))
+
+module _ (names s : List ℕ) (t : Titles) (fit : TitlesFit t) (k : Sayable s t) (limit : length (listBytes (entriesOf s t)) ≤ 1073741824)
+    (e : titlesRight names s t ≡ false) where
+  abbrev said : List Entry
+  said = entriesOf s t
+
+  said-many : length (entriesOf s t) ≡ t .count
+  said-many = entries-long s (t .list) (t .count) (omega (arith, k .few, fit .room))
+
+  broken : entriesRule names (entriesOf s t) ≡ false
+  unfolding titlesRight
+  broken = sym (simp (le-leb (t .count) 128 (k .few), k .row)) ∙ e
+
+  said-fit : AllFit (entriesOf s t)
+  unfolding listBytes
+  said-fit i h =
+      let j : i < t .count = omega (arith, said-many) in
+      let x : Title = getD (t .list) i noTitle in
+      let n = getD-take (t .count) (t .list) i noTitle j in
+      let long =
+      row-long 0 s (take (t .count) (t .list)) (k .row) i (omega (arith, length-take-le (t .count) (t .list) (omega (arith, k .few, fit .room)))) in
+      let text : length (entryIn s x .text) ≡ x .length .0 + 1 = subst (λ (y : Title). length (entryIn s y .text) ≡ y .length .0 + 1) n long in
+      let within = text-within (entriesOf s t) i h in
+      let a = entry-at s (t .list) (t .count) (omega (arith, k .few, fit .room)) i j in
+      subst EntryFits (sym a)
+      (record {
+        kind = k .kinds i j;
+        name = fit .name i;
+        some = omega arith;
+        long =
+            omega (arith, ap (λ (y : Entry). length (y .text)) a, length-append (codeBytes code.Titles) (bodyBytes (map pieceOf (entriesOf s t))), within);
+      })
+
+  pub fault-said : (lost : Bool) → listValid lost (listPart s t) names ≡ false
+  unfolding listValid firstEntries entriesRule eachRule every namesBy distinct
+  fault-said lost = by (leb 1 (t .count)) refl
+    where
+      clash : _≡_ {A = Bool} true false → ⊥
+      clash c = subst (λ (z : Bool). cond z (Unit {0}) ⊥) c tt
+
+      by : (x : Bool) → leb 1 (t .count) ≡ x → listValid lost (cond x (listBytes (entriesOf s t)) []) names ≡ false
+      by true g = simp (entries-back (entriesOf s t) said-fit, broken, and-false)
+      by false g = absurd (clash (sym (ap (entriesRule names) (no-entries s t (leb-false 1 (t .count) g))) ∙ broken))
+
+-- ---- texts that keep the rule are not long
+texts-shorter : (es : List Entry) → AllShort es → length (textsOf es) ≤ 256 * length es
+unfolding textsOf entryBytes
+texts-shorter [] o = omega arith
+texts-shorter (e ∷ es) o =
+    omega (arith, length-append (e .text) (entryBytes textOf es), o 0 (omega arith), texts-shorter es (λ i h. o (suc i) (omega arith)))
+
+pub texts-most : (names : List ℕ) (es : List Entry) → entriesRule names es ≡ true → length es ≤ 128 → length (textsOf es) ≤ 32768
+texts-most names es e h =
+    omega (arith, texts-shorter es (λ i g. rule-kept names (getD es i noEntry) (entry-kept names es e i g) .short))

@@ -441,9 +441,21 @@ module _ {lost : Bool} {l : List ℕ} {at n : ℕ} {titles : List Title} (w : Fi
                   held = ap (λ (ts : List Title). set ts n y) (w .held) ∙ put-behind (w .before) n y (w .many) r;
                 }
 
-pub ruleset finding =
-    (find-begins, nothing-found, find-ends, find-unfit, find-fits, find-less, find-other, find-many, find-kind, find-size, find-least,
-    find-room, find-next)
+pub ruleset finding = (
+  find-begins,
+  nothing-found,
+  find-ends,
+  find-unfit,
+  find-fits,
+  find-less,
+  find-other,
+  find-many,
+  find-kind,
+  find-size,
+  find-least,
+  find-room,
+  find-next,
+)
 
 -- ---- one title
 module _ (l : List ℕ) (at : ℕ) {k n size : ℕ} (e : k ≡ frontKind (drop at l)) (f : size ≡ sizeAt (drop at l) 0)

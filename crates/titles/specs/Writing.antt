@@ -30,6 +30,10 @@ chunkOf e = pieceBytes (pieceOf e)
 unfoldable pub listBytes : List Entry → List ℕ
 listBytes es = codeBytes code.Titles ++ bodyBytes (map pieceOf es)
 
+-- the list of titles that a file has, nothing where there is none
+abbrev pub listPart : List ℕ → Titles → List ℕ
+listPart s t = cond (leb 1 (t .count)) (listBytes (entriesOf s t)) []
+
 -- ---- titles that may be written: they are as reading gives them
 
 -- the first text stands at a place, each right after the last, and all within so many bytes
@@ -55,3 +59,9 @@ pub record TitlesFit (t : Titles) : Type 0 where
 pub record Short (s : List ℕ) (list : List Title) (n : ℕ) : Type 0 where
   pub few : n ≤ 128
   pub texts : (i : ℕ) → i < n → length (entryIn s (getD list i noTitle) .text) ≤ 256
+
+-- a list says all of titles that are at most 128, stand in a row from the start of s, and are labels or notes
+pub record Sayable (s : List ℕ) (t : Titles) : Type 0 where
+  pub few : t .count ≤ 128
+  pub row : inRow (length s) 0 (take (t .count) (t .list)) ≡ true
+  pub kinds : (i : ℕ) → i < t .count → getD (t .list) i noTitle .kind < 2

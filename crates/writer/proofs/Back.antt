@@ -34,7 +34,7 @@ use Rattle.tables.proofs.Back.{cues-back}
 use Rattle.tables.proofs.Kept.{kept-names}
 use Rattle.titles.specs.Titles.{entriesOf}
 use Rattle.titles.specs.Lists.{entriesIn, listValid, titlesOf}
-use Rattle.titles.specs.Writing.{pieceOf, listBytes, titlesKept}
+use Rattle.titles.specs.Writing.{pieceOf, listBytes, titlesKept, listPart}
 use Rattle.titles.proofs.Round.{round-entries, round-titles, round-valid, none-in, none-titles, none-valid, none-kept, no-entries}
 use Rattle.rules.specs.declared.Record.{Record}
 use Rattle.rules.specs.Rules.{ChunkBytes, recordOf, withTitles, chunkChecks, verdictOf, recordVerdict}
@@ -43,7 +43,6 @@ use Rattle.rules.proofs.Taken.{record-keeps}
 use Rattle.rules.proofs.Back.{verdict-back, record-back}
 use Rattle.reader.specs.Content.{Content, refused, holds, contentBy, zeros, formatPart, soundPart, factPart, cuePart, playlistPart, titlesPart, chunksAt, recordAt, titlesValid, chunksChecks, checksAt, verdictAt, contentIn, contentOf, readingOf, reading, spotBy, titlesFrom, titlesSpot, titlesIn}
 use Rattle.writer.specs.File.{sizeOf, partsOf, fileOf, rightTitles}
-use Rattle.writer.specs.Demands.{listPart}
 
 -- a table is left out exactly where its bytes are those that are read in its place
 in-place : (count : ℕ) (bytes : List ℕ) → (count ≡ 0 → bytes ≡ zeros) → cond (leb 1 count) bytes zeros ≡ bytes

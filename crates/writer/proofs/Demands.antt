@@ -18,7 +18,11 @@ use Rattle.units.specs.Checks.{decided, andThen, numberBy}
 use Rattle.units.proofs.Checks.{number-row}
 use Rattle.riff.specs.declared.Walked.{Walked}
 use Rattle.riff.proofs.Walking.{whole-limit, too-long}
+use Rattle.riff.proofs.Laying.{length-laid}
+use Rattle.tables.specs.Cues.{namesIn}
 use Rattle.titles.specs.Titles.{Entry, entriesOf}
+use Rattle.titles.specs.Writing.{listBytes}
+use Rattle.titles.proofs.Round.{fault-said, no-entries, no-list, list-even}
 use Rattle.rules.specs.declared.Record.{Record}
 use Rattle.rules.specs.Rules.{recordChecks, recordVerdict, Writable}
 use Rattle.rules.specs.Written.{recordKept, RecordFits, FaultSaid}
@@ -31,12 +35,13 @@ use Rattle.reader.proofs.Kept.{held, content-taken, content-rules}
 use Rattle.reader.proofs.Again.{content-fits, content-kept-read}
 use Rattle.writer.specs.declared.Written.the-variants.{Bytes}
 use Rattle.writer.specs.declared.Written.the-variants as written
-use Rattle.writer.specs.File.{sizeOf, fileOf, rightTitles, writeChecks, settled, writtenBy, writingBy, writing, writtenNumber}
+use Rattle.writer.specs.File.{sizeOf, partsOf, fileOf, rightTitles, writeChecks, settled, writtenBy, writingBy, writing, writtenNumber}
 use Rattle.writer.specs.Demands.{Back, Again, fileAgain, Same, SameNumber, WriteNumbered}
 use Rattle.writer.proofs.Settling.{Settled, settled-then, writing-by, told-long, settled-says}
 pub use Rattle.writer.proofs.Settling.{bytes-say}
 use Rattle.writer.proofs.Back.{ruled-back, titles-back, content-back, entries-back}
 use Rattle.writer.proofs.Room.{not-longer}
+use Rattle.writer.proofs.Sizes.{titles-size}
 
 -- ---- what an answer says of the verdict
 module _ (x : Bool) (m : Record) (b w : List ℕ) (room : ℕ) where
@@ -118,7 +123,7 @@ same q r e = cc
 -- within the limit, a refusal for something other than room is the rules', or that of the titles where the rules accept
 ruled : (x : Bool) (m : Record) (b w : List ℕ) (room : ℕ) (r : Refusal) → length (fileOf m b w) ≤ fileLimit → (r ≡ OutputTooSmall → ⊥)
     → settled x m b w room ≡ Refused r
-    → (recordVerdict m (sizeOf w) ≡ Refused r) ⊎ ((recordVerdict m (sizeOf w) ≡ Accepted) × (r ≡ TitlesWrong))
+    → (recordVerdict m (sizeOf w) ≡ Refused r) ⊎ ((recordVerdict m (sizeOf w) ≡ Accepted) × (x ≡ false) × (r ≡ TitlesWrong))
 unfolding decided
 ruled x m b w room r l n e =
     by (recordVerdict m (sizeOf w)) x (leb file fileLimit) (leb file room) (le-leb file fileLimit l) (sym (settled-then x m b w room) ∙ e)
@@ -128,12 +133,25 @@ ruled x m b w room r l n e =
 
     by : (v : Verdict) (t y z : Bool) → y ≡ true
         → andThen v (cond t (cond y (cond z Accepted (Refused OutputTooSmall)) (Refused LengthOutOfRange)) (Refused TitlesWrong)) ≡ Refused r
-        → (v ≡ Refused r) ⊎ ((v ≡ Accepted) × (r ≡ TitlesWrong))
+        → (v ≡ Refused r) ⊎ ((v ≡ Accepted) × (t ≡ false) × (r ≡ TitlesWrong))
     by (Refused q) t y z g e = inl e
-    by Accepted false y z g e = inr (refl, sym (same TitlesWrong r e))
+    by Accepted false y z g e = inr (refl, refl, sym (same TitlesWrong r e))
     by Accepted true true true g e = let z : _≡_ {A = ℕ} 0 1 = cc in absurd (omega arith)
     by Accepted true true false g e = absurd (n (sym (same OutputTooSmall r e)))
     by Accepted true false z g e = let z : _≡_ {A = ℕ} 0 1 = cc in absurd (omega arith)
+
+-- the list of a file within the limit is within it; where it is left out, it is its four letters
+list-within : (m : Record) (b w : List ℕ) → length (fileOf m b w) ≤ fileLimit → length (listBytes (entriesOf b (m .titles))) ≤ fileLimit
+unfolding fileOf partsOf
+list-within m b w l = by (leb 1 (m .titles .count)) refl
+  where
+    by : (x : Bool) → leb 1 (m .titles .count) ≡ x → length (listBytes (entriesOf b (m .titles))) ≤ fileLimit
+    by true e =
+        let n = titles-size b (m .titles) (leb-true 1 (m .titles .count) e) refl (list-even (entriesOf b (m .titles))) in
+        omega (arith, n, length-laid (partsOf m b w))
+    by false e =
+        let n = ap (λ (es : List Entry). length (listBytes es)) (no-entries b (m .titles) (leb-false 1 (m .titles .count) e)) in
+        omega (arith, n, no-list)
 
 reading-long : (s : List ℕ) → fileLimit < length s → reading s .verdict ≡ Refused LengthOutOfRange
 unfolding reading contentOf
@@ -143,7 +161,8 @@ pub same-number : SameNumber
 unfolding SameNumber reading
 same-number m b w room r h k e = by (leb (length (fileOf m b w)) fileLimit) refl
   where
-    at : length (fileOf m b w) ≤ fileLimit → (recordVerdict m (sizeOf w) ≡ Refused r) ⊎ ((recordVerdict m (sizeOf w) ≡ Accepted) × (r ≡ TitlesWrong))
+    at : length (fileOf m b w) ≤ fileLimit
+        → (recordVerdict m (sizeOf w) ≡ Refused r) ⊎ ((recordVerdict m (sizeOf w) ≡ Accepted) × (rightTitles m b ≡ false) × (r ≡ TitlesWrong))
         → reading (fileOf m b w) .verdict ≡ Refused r
     at l (inl v) =
         let c : FaultSaid m (sizeOf w) =
@@ -151,7 +170,8 @@ same-number m b w room r h k e = by (leb (length (fileOf m b w)) fileLimit) refl
         ap (λ (x : Content). readingOf x .verdict) (ruled-back m b w h c l v)
     at l (inr p) =
         let c : FaultSaid m (sizeOf w) = no-fault (record-keeps m (sizeOf w) (p .0)) in
-        ap (λ (x : Content). readingOf x .verdict) (titles-back m b w h c l (p .0) (k .titles (p .1))) ∙ ap Refused (sym (p .1))
+        let f = fault-said (namesIn (m .cues)) b (m .titles) (h .titles) (k .titles (p .2)) (list-within m b w l) (p .1) in
+        ap (λ (x : Content). readingOf x .verdict) (titles-back m b w h c l (p .0) f) ∙ ap Refused (sym (p .2))
 
     by : (y : Bool) → leb (length (fileOf m b w)) fileLimit ≡ y → reading (fileOf m b w) .verdict ≡ Refused r
     by true t =

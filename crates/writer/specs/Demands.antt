@@ -1,9 +1,9 @@
 -- Demand 2 of written files, for every record, sound and room. `proofs/Demands.antt` proves each. Assumes nothing.
 use Prim.Native.Nat.{ℕ, _+_, _%_, _≤_, _<_}
 use mathlib.Core.Path.{_≡_}
-use mathlib.Core.Bool.{Bool, true, false, not, cond}
-use mathlib.Core.List.{List, []}
-use lib.Dec.{T, leb}
+use mathlib.Core.Bool.{true, false, not}
+use mathlib.Core.List.{List}
+use lib.Dec.{T}
 use lib.ListN.{length}
 use lib.Pow.{areBytes}
 use Rattle.units.specs.Refusals.{fileLimit}
@@ -14,11 +14,8 @@ use Rattle.units.specs.declared.Verdict.the-variants as verdict
 use Rattle.formats.specs.Format.{formatRule}
 use Rattle.formats.specs.Frames.{needsFact}
 use Rattle.formats.specs.Bytes.{saidFormat}
-use Rattle.tables.specs.Cues.{namesIn}
-use Rattle.titles.specs.declared.Titles.{Titles}
 use Rattle.titles.specs.Titles.{entriesOf}
-use Rattle.titles.specs.Lists.{listValid}
-use Rattle.titles.specs.Writing.{listBytes}
+use Rattle.titles.specs.Writing.{Sayable}
 use Rattle.rules.specs.declared.Record.{Record}
 use Rattle.rules.specs.Written.{recordKept, RecordFits}
 use Rattle.reader.specs.Content.{reading, soundIn, titlesIn, textsIn}
@@ -64,16 +61,12 @@ Same = (s : List ℕ) → T (areBytes s) → reading s .verdict ≡ verdict.Acce
 
 -- ---- a refusal of `write` is the number that reading the bytes gives, where those bytes carry the fault
 
--- the list of titles that a file has, nothing where there is none
-abbrev pub listPart : List ℕ → Titles → List ℕ
-listPart b t = cond (leb 1 (t .count)) (listBytes (entriesOf b t)) []
-
--- a PCM file says neither its samples per block nor F; a list of titles neither where their texts stood nor what it has no room for;
--- a lent buffer is no part of a file; and a file above the limit is refused for that before anything else
+-- a PCM file says neither its samples per block nor F; a list of titles neither where their texts stood, nor what it has no room for,
+-- nor a kind that is none; a lent buffer is no part of a file; and a file above the limit is refused for that before anything else
 pub record Carries (m : Record) (b w : List ℕ) (r : Refusal) : Type 0 where
   pub format : r ≡ FormatWrong → formatRule (saidFormat (m .format)) ≡ false
   pub frames : r ≡ FactWrong → needsFact (m .format) ≡ true
-  pub titles : r ≡ TitlesWrong → (lost : Bool) → listValid lost (listPart b (m .titles)) (namesIn (m .cues)) ≡ false
+  pub titles : r ≡ TitlesWrong → Sayable b (m .titles)
   pub room : r ≡ OutputTooSmall → ⊥
   pub limit : fileLimit < length (fileOf m b w) → r ≡ LengthOutOfRange
 
