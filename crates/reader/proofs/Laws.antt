@@ -100,13 +100,13 @@ module _ (s : List ℕ) {w : Walked} (e : w ≡ directoryOf s) where
   verdict-by f = ap (λ (c : Content). readingOf c .verdict) (content-by f)
 
   module _ {r : Refusal} (f : w ≡ Stopped r) where
-    pub sound-stopped : Missing ≡ soundSpot s
+    pub sound-stopped : {spot : Spot} → spot ≡ Missing → spot ≡ soundSpot s
     unfolding soundSpot
-    sound-stopped = spot-by soundFrom (verdict-by f) f
+    sound-stopped g = g ∙ spot-by soundFrom (verdict-by f) f
 
-    pub titles-stopped : Missing ≡ titlesSpot s
+    pub titles-stopped : {spot : Spot} → spot ≡ Missing → spot ≡ titlesSpot s
     unfolding titlesSpot
-    titles-stopped = spot-by titlesFrom (verdict-by f) f
+    titles-stopped g = g ∙ spot-by titlesFrom (verdict-by f) f
 
   module _ {d : Directory} {spot : Spot} (f : w ≡ Whole d) where
     pub sound-whole : spot ≡ spotBy soundFrom (readingOf (contentAt s d) .verdict) (Whole d) → spot ≡ soundSpot s
@@ -117,21 +117,6 @@ module _ (s : List ℕ) {w : Walked} (e : w ≡ directoryOf s) where
     unfolding titlesSpot
     titles-whole g = g ∙ spot-by titlesFrom (verdict-by f) f
 
--- a directory's chunk stands where it says, if its chunks are taken
-module _ (which : Directory → Spot) (d : Directory) {x y : Reading} (e : x ≡ y) where
-  pub spot-refused : {r : Refusal} → x .verdict ≡ Refused r → Missing ≡ spotBy which (y .verdict) (Whole d)
-  spot-refused h = ap (λ (v : Verdict). spotBy which v (Whole d)) (sym h ∙ ap (λ (z : Reading). z .verdict) e)
-
-  spot-taken : x .verdict ≡ Accepted → which d ≡ spotBy which (y .verdict) (Whole d)
-  spot-taken h = ap (λ (v : Verdict). spotBy which v (Whole d)) (sym h ∙ ap (λ (z : Reading). z .verdict) e)
-
-module _ (d : Directory) {x y : Reading} (e : x ≡ y) (h : x .verdict ≡ Accepted) where
-  pub sound-taken : d .sound ≡ spotBy soundFrom (y .verdict) (Whole d)
-  sound-taken = spot-taken soundFrom d e h
-
-  pub titles-taken : d .titles ≡ spotBy titlesFrom (y .verdict) (Whole d)
-  titles-taken = spot-taken titlesFrom d e h
-
 pub ruleset whole = (
   whole-limit,
   read-stopped,
@@ -140,7 +125,33 @@ pub ruleset whole = (
   titles-stopped,
   sound-whole,
   titles-whole,
-  spot-refused,
-  sound-taken,
-  titles-taken,
 )
+
+-- ---- a directory's chunk stands where it says, if its chunks are taken
+module _ (d : Directory) {v : Verdict} where
+  pub spot-refused : (which : Directory → Spot) {r : Refusal} → v ≡ Refused r → Missing ≡ spotBy which v (Whole d)
+  spot-refused which h = ap (λ (u : Verdict). spotBy which u (Whole d)) (sym h)
+
+  pub sound-taken : v ≡ Accepted → d .sound ≡ spotBy soundFrom v (Whole d)
+  sound-taken h = ap (λ (u : Verdict). spotBy soundFrom u (Whole d)) (sym h)
+
+  pub titles-taken : v ≡ Accepted → d .titles ≡ spotBy titlesFrom v (Whole d)
+  titles-taken h = ap (λ (u : Verdict). spotBy titlesFrom u (Whole d)) (sym h)
+
+pub ruleset standing = (spot-refused, sound-taken, titles-taken)
+
+-- and so it does of an answer that is the same
+pub spot-same : (which : Directory → Spot) (d : Directory) {spot : Spot} {x y : Reading} → x ≡ y
+    → spot ≡ spotBy which (x .verdict) (Whole d) → spot ≡ spotBy which (y .verdict) (Whole d)
+spot-same which d e f = f ∙ ap (λ (z : Reading). spotBy which (z .verdict) (Whole d)) e
+
+-- nothing stands where the answer is a refusal
+pub spot-turned : (which : Directory → Spot) (d : Directory) {spot : Spot} {x y : Reading} {r : Refusal} → x ≡ turnedAway r → x ≡ y
+    → spot ≡ Missing → spot ≡ spotBy which (y .verdict) (Whole d)
+spot-turned which d e f g = g ∙ ap (λ (z : Reading). spotBy which (z .verdict) (Whole d)) (sym e ∙ f)
+
+pub spot-both : (which : Directory → Spot) (s : List ℕ) (d : Directory) {spot : Spot} → judgedAt s d ≡ readingOf (contentAt s d)
+    → spot ≡ spotBy which (judgedAt s d .verdict) (Whole d) → spot ≡ spotBy which (readingOf (contentAt s d) .verdict) (Whole d)
+spot-both which s d e f = spot-same which d e f
+
+pub ruleset spots = (spot-turned, spot-both)

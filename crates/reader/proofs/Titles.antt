@@ -42,6 +42,7 @@ use Rattle.rules.specs.Rules.{ChunkBytes, recordOf, withTitles, chunkChecks, ve
 use Rattle.reader.specs.Content.{Content, contentBy, soundPart, titlesPart, chunksAt, recordAt, titlesValid, chunksChecks, listed, judgedAt, checksAt, verdictAt, contentIn, contentOf, readingOf, reading, spotBy, soundFrom, soundSpot, titlesFrom, titlesSpot, titlesIn, textsIn, readingIn}
 use Rattle.reader.specs.Demands.{Refusing, TextsMost, TitlesTold}
 use Rattle.reader.proofs.Demands.{by-file, refusing}
+use Rattle.reader.proofs.Laws.{spot-same}
 use Rattle.reader.proofs.Kept.{Held, formed, titles-valid}
 
 -- ---- a record with the titles of a list
@@ -117,10 +118,10 @@ module _ (s : List ℕ) (d : Directory) where
       made-so = ap (λ (x : Reading). x .made) (e ∙ ap (λ (v : Verdict). readingBy v (recordOf b)) (others ∙ h))
 
       module _ (f : d .second ≡ false) where
-        pub titled-none : {a : Bool} → a ≡ isThere (d .titles) → not a ≡ true → u ≡ judgedAt s d
+        untitled-taken : isThere (d .titles) ≡ false → u ≡ judgedAt s d
         unfolding judged recordOf
-        titled-none {a} g k =
-            let missing : titlesPart s d ≡ [] = absent (d .titles) (sym g ∙ not-true a k) in
+        untitled-taken k =
+            let missing : titlesPart s d ≡ [] = absent (d .titles) k in
             accepted (simp (f, missing, none-valid))
             (e ∙ ap (λ (v : Verdict). readingBy v (recordOf b)) (others ∙ h)
             ∙ ap (λ (t : Titles). record { verdict = Accepted; made = withTitles (recordOf b) t }) (sym (ap titlesOf missing ∙ none-titles)))
@@ -140,10 +141,30 @@ module _ (s : List ℕ) (d : Directory) where
             by true v = accepted (simp (f, v)) (so ∙ simp v)
             by false v = unlisted (simp (f, v)) (so ∙ simp v)
 
+    -- without a list the others' answer stands
+    untitled : {a : Bool} → a ≡ cond (d .second) true (isThere (d .titles)) → not a ≡ true → u ≡ judgedAt s d
+    untitled {a} g k = by (d .second) refl (sym g ∙ not-true a k) (u .verdict) refl
+      where
+        by : (c : Bool) → d .second ≡ c → cond c true (isThere (d .titles)) ≡ false → (v : Verdict) → u .verdict ≡ v → u ≡ judgedAt s d
+        by true f q v h = let z : _≡_ {A = ℕ} 0 1 = cc in absurd (omega arith)
+        by false f q Accepted h = untitled-taken h f q
+        by false f q (Refused r) h = titled-refused h
+
+    module _ {a : Bool} (g : a ≡ cond (d .second) true (isThere (d .titles))) (k : not a ≡ true) where
+      pub untitled-told : {x : Reading} → x ≡ u → x ≡ judgedAt s d
+      untitled-told f = f ∙ untitled g k
+
+      pub untitled-spot : (which : Directory → Spot) {spot : Spot} → spot ≡ spotBy which (u .verdict) (Whole d)
+          → spot ≡ spotBy which (judgedAt s d .verdict) (Whole d)
+      untitled-spot which f = spot-same which d (untitled g k) f
+
+  pub titled-told : {u x : Reading} → u ≡ judgedAt s d → x ≡ u → x ≡ judgedAt s d
+  titled-told e f = f ∙ e
+
 pub part-limit : (s : List ℕ) (spot : Spot) {l : List ℕ} → length s ≤ fileLimit → l ≡ partOf s spot [] → length l ≤ fileLimit
 part-limit s spot h e = omega (arith, part-within s spot, ap length e)
 
-pub ruleset titling = (titled-refused, titled-twice, titled-none, titled-list, part-limit)
+pub ruleset titling = (titled-refused, titled-twice, titled-list, part-limit)
 
 -- ---- what is known of the texts of every file, as it was read
 pub record TextsKnown (s : List ℕ) (r : Reading) (spot : Spot) : Type 0 where
@@ -173,29 +194,28 @@ texts-known s =
       form = valid-form (padLost (d .titles)) (titlesPart s d) names e;
     })
 
-module _ (s : List ℕ) {r : Reading} {spot : Spot} (a : r ≡ reading s) (t : spot ≡ titlesSpot s) where
-  known : TextsKnown s r spot
-  known = subst (λ (x : Reading). TextsKnown s x spot) (sym a) (subst (TextsKnown s (reading s)) (sym t) (texts-known s))
-
+module _ (s : List ℕ) {r : Reading} (a : r ≡ reading s) where
   pub known-few : r .made .titles .count ≤ 128
-  known-few = known .few
+  known-few = subst (λ (x : Reading). x .made .titles .count ≤ 128) (sym a) (texts-known s .few)
+
+  pub as-long : {n : ℕ} → n ≡ textsEnd (r .made .titles) → n ≡ length (textsIn s)
+  unfolding titlesIn
+  as-long e = e ∙ ap (λ (x : Reading). textsEnd (x .made .titles)) a ∙ texts-known s .ends
+
+module _ (s : List ℕ) {n : ℕ} (e : n ≡ length (textsIn s)) {room : ℕ} where
+  pub texts-short : room < n → false ≡ leb (length (textsIn s)) room
+  texts-short h = sym (lt-leb (length (textsIn s)) room (omega (arith, e)))
+
+  pub texts-fit : n ≤ room → true ≡ leb (length (textsIn s)) room
+  texts-fit h = sym (le-leb (length (textsIn s)) room (omega (arith, e)))
+
+module _ (s : List ℕ) {spot : Spot} (t : spot ≡ titlesSpot s) where
+  known : TextsKnown s (reading s) spot
+  known = subst (TextsKnown s (reading s)) (sym t) (texts-known s)
 
   all-texts : textsIn s ≡ textsOf (entriesIn (partOf s spot []))
   unfolding titlesIn
   all-texts = ap (λ (x : Spot). textsOf (entriesIn (partOf s x []))) (sym t)
-
-  module _ {n : ℕ} (e : n ≡ textsEnd (r .made .titles)) where
-    as-long : n ≡ length (textsIn s)
-    as-long = e ∙ known .ends ∙ sym (ap length all-texts)
-
-    pub texts-short : {room : ℕ} → room < n → false ≡ leb (length (textsIn s)) room
-    texts-short {room} h = sym (lt-leb (length (textsIn s)) room (omega (arith, as-long)))
-
-    pub texts-fit : {room : ℕ} → n ≤ room → true ≡ leb (length (textsIn s)) room
-    texts-fit {room} h = sym (le-leb (length (textsIn s)) room (omega (arith, as-long)))
-
-    pub texts-room : {room : ℕ} {l : List ℕ} → n ≤ room → l ≡ partOf s spot [] → length (textsOf (entriesIn l)) ≤ room
-    texts-room h g = omega (arith, as-long, ap length all-texts, ap (λ (x : List ℕ). length (textsOf (entriesIn x))) g)
 
   -- without a list there is nothing to put
   pub texts-absent : (d : List ℕ) {b : Bool} → b ≡ isThere spot → not b ≡ true → d ≡ front (textsIn s) d
@@ -207,6 +227,9 @@ module _ (s : List ℕ) {r : Reading} {spot : Spot} (a : r ≡ reading s) (t : s
       by Missing g = none-texts
 
   module _ {l : List ℕ} (g : l ≡ partOf s spot []) where
+    pub texts-room : {n room : ℕ} → n ≡ length (textsIn s) → n ≤ room → length (textsOf (entriesIn l)) ≤ room
+    texts-room e h = omega (arith, e, ap length all-texts, ap (λ (x : List ℕ). length (textsOf (entriesIn x))) g)
+
     pub list-short : length l ≤ fileLimit
     list-short = omega (arith, known .short, ap length g)
 
@@ -216,8 +239,7 @@ module _ (s : List ℕ) {r : Reading} {spot : Spot} (a : r ≡ reading s) (t : s
     pub texts-put : (d : List ℕ) {x : List ℕ} → x ≡ front (textsOf (entriesIn l)) d → x ≡ front (textsIn s) d
     texts-put d e = e ∙ ap (λ (ys : List ℕ). front ys d) (sym (all-texts ∙ ap (λ (k : List ℕ). textsOf (entriesIn k)) (sym g)))
 
-pub ruleset texting =
-    (known-few, texts-short, texts-fit, texts-room, texts-absent, list-short, list-formed, texts-put)
+pub ruleset texting = (texts-short, texts-fit, texts-room, texts-absent, list-short, list-formed, texts-put)
 
 -- ---- reading, with the texts
 module _ (s : List ℕ) (room : ℕ) {r : Reading} (a : r ≡ reading s) where
@@ -248,7 +270,7 @@ module _ (ys d : List ℕ) where
     pub kept-taken : {v : Verdict} → not b ≡ false → v ≡ Accepted → x ≡ holding v ys d
     kept-taken h f = e ∙ simp (not-false b h, f)
 
-pub ruleset reads = (read-refused, read-short, read-taken, kept-refused, kept-short, kept-taken)
+pub ruleset reads = (known-few, as-long, read-refused, read-short, read-taken, kept-refused, kept-short, kept-taken)
 
 -- ---- the record's titles say what the list does, where the texts stand from the start of a buffer
 pub titles-told : TitlesTold

@@ -12,7 +12,7 @@ use units::Refusal;
 use units::Verdict;
 ghost use mathlib.Core.Path.{_≡_};
 ghost use Prim.Native.Nat.{_+_, _≤_};
-ghost use mathlib.Core.Bool.{cond};
+ghost use mathlib.Core.Bool.{true, cond};
 ghost use lib.Dec.{leb};
 ghost use lib.ListN.{length};
 ghost use Rattle.units.specs.Refusals.{fileLimit};
@@ -20,8 +20,10 @@ ghost use Rattle.units.specs.declared.Verdict.the-variants.{Accepted};
 ghost use Rattle.little.specs.Writing.{front, holding};
 ghost use Rattle.formats.specs.Frames.{needsFact};
 ghost use Rattle.riff.specs.Walk.{partOf};
-ghost use Rattle.rules.specs.Rules.{judged};
+ghost use Rattle.rules.specs.Rules.{turnedAway, judged};
+ghost use Rattle.riff.specs.declared.Spot.the-variants.{Missing};
 ghost use Rattle.riff.specs.declared.Walked.the-variants.{Whole};
+ghost use Rattle.riff.specs.Chunks.{isThere};
 ghost use Rattle.reader.specs.Content.{chunksAt, contentAt, listed, judgedAt, readingOf, reading, spotBy, soundFrom, soundSpot, soundIn, soundStart};
 ghost use Rattle.reader.specs.Content.{titlesFrom, titlesSpot, textsIn, readingIn};
 
@@ -92,7 +94,7 @@ fn with_list(made: Record, list: &[u8], lost: bool) -> Reading
     }
 }
 
-// What a file says with its titles, and the verdict on it. Where there is no list, nothing more is done.
+// What a file says with the titles of its list, and the verdict on it.
 fn read_titles(file: &[u8], places: Directory, untitled: Reading) -> Reading
     requires { ⌜ (length (now file) ≤ fileLimit) × (untitled ≡ judged (chunksAt (now file) places)) ⌝ }
     ensures answer { λ r. ⌜ r ≡ judgedAt (now (file .entry)) places ⌝ }
@@ -105,40 +107,16 @@ fn read_titles(file: &[u8], places: Directory, untitled: Reading) -> Reading
         return rules::turned_away(Refusal::TitlesWrong);
     }
     let spot = places.titles;
-    if !riff::there(spot) {
-        return untitled;
-    }
     let list = chunk_data(file, spot, b"");
     with_list(untitled.made, list, riff::pad_lost(spot))
 }
 
-// What a file with these chunks says.
-fn read_chunks(file: &[u8], places: Directory) -> Reading
-    requires { ⌜ length (now file) ≤ fileLimit ⌝ }
-    ensures answer { λ r. ⌜ r ≡ readingOf (contentAt (now (file .entry)) places) ⌝ }
+// The answer to a file, and where its sound data and its list of titles stand; of a refused file, nowhere.
+fn opened_by(answer: Reading, places: Directory) -> Opened
+    ensures answer { λ r. ⌜ r .answer ≡ answer ⌝ }
+    ensures sound { λ r. ⌜ r .sound ≡ spotBy soundFrom (answer .verdict) (Whole places) ⌝ }
+    ensures titles { λ r. ⌜ r .titles ≡ spotBy titlesFrom (answer .verdict) (Whole places) ⌝ }
 {
-    let format = places.format;
-    let sound = places.sound;
-    if !riff::there(format) {
-        return rules::turned_away(Refusal::FormatOrDataMissing);
-    }
-    if !riff::there(sound) {
-        return rules::turned_away(Refusal::FormatOrDataMissing);
-    }
-    let untitled = read_parts(file, places);
-    read_titles(file, places, untitled)
-}
-
-// The same, and where the sound data and the list of titles stand; of a refused file, nowhere.
-fn open_chunks(file: &[u8], places: Directory) -> Opened
-    requires { ⌜ length (now file) ≤ fileLimit ⌝ }
-    ensures answer { λ r. ⌜ r .answer ≡ readingOf (contentAt (now (file .entry)) places) ⌝ }
-    ensures sound { λ r. ⌜ r .sound
-        ≡ spotBy soundFrom (readingOf (contentAt (now (file .entry)) places) .verdict) (Whole places) ⌝ }
-    ensures titles { λ r. ⌜ r .titles
-        ≡ spotBy titlesFrom (readingOf (contentAt (now (file .entry)) places) .verdict) (Whole places) ⌝ }
-{
-    let answer = read_chunks(file, places);
     let verdict = answer.verdict;
     let Verdict::Accepted = verdict else {
         return Opened {
@@ -156,6 +134,66 @@ fn open_chunks(file: &[u8], places: Directory) -> Opened
     }
 }
 
+// What a file that is refused before its chunks are judged is answered.
+fn shut(refusal: Refusal) -> Opened
+    ensures answer { λ r. ⌜ r .answer ≡ turnedAway refusal ⌝ }
+    ensures sound { λ r. ⌜ r .sound ≡ Missing ⌝ }
+    ensures titles { λ r. ⌜ r .titles ≡ Missing ⌝ }
+{
+    Opened {
+        answer: rules::turned_away(refusal),
+        sound: Spot::Missing,
+        titles: Spot::Missing,
+    }
+}
+
+// Whether a list of titles was met, or even two.
+fn has_list(places: Directory) -> bool
+    ensures answer { λ r. ⌜ r ≡ cond (places .second) true (isThere (places .titles)) ⌝ }
+{
+    if places.second {
+        return true;
+    }
+    let spot = places.titles;
+    riff::there(spot)
+}
+
+// What a file with these chunks says, where `fmt ` and `data` are there. Most files have no list of titles: their
+// record is told as it was judged, and is not copied once more for the titles that it has not.
+fn open_parts(file: &[u8], places: Directory) -> Opened
+    requires { ⌜ length (now file) ≤ fileLimit ⌝ }
+    ensures answer { λ r. ⌜ r .answer ≡ judgedAt (now (file .entry)) places ⌝ }
+    ensures sound { λ r. ⌜ r .sound ≡ spotBy soundFrom (judgedAt (now (file .entry)) places .verdict) (Whole places) ⌝ }
+    ensures titles { λ r. ⌜ r .titles ≡ spotBy titlesFrom (judgedAt (now (file .entry)) places .verdict) (Whole places) ⌝ }
+{
+    let untitled = read_parts(file, places);
+    if !has_list(places) {
+        return opened_by(untitled, places);
+    }
+    let titled = read_titles(file, places, untitled);
+    opened_by(titled, places)
+}
+
+// What a file with these chunks says, and where its sound data and its list of titles stand.
+fn open_chunks(file: &[u8], places: Directory) -> Opened
+    requires { ⌜ length (now file) ≤ fileLimit ⌝ }
+    ensures answer { λ r. ⌜ r .answer ≡ readingOf (contentAt (now (file .entry)) places) ⌝ }
+    ensures sound { λ r. ⌜ r .sound
+        ≡ spotBy soundFrom (readingOf (contentAt (now (file .entry)) places) .verdict) (Whole places) ⌝ }
+    ensures titles { λ r. ⌜ r .titles
+        ≡ spotBy titlesFrom (readingOf (contentAt (now (file .entry)) places) .verdict) (Whole places) ⌝ }
+{
+    let format = places.format;
+    let sound = places.sound;
+    if !riff::there(format) {
+        return shut(Refusal::FormatOrDataMissing);
+    }
+    if !riff::there(sound) {
+        return shut(Refusal::FormatOrDataMissing);
+    }
+    open_parts(file, places)
+}
+
 // The record of a file, or the refusal, and where its sound data and its list of titles stand.
 pub fn open(file: &[u8]) -> Opened
     ensures answer { λ r. ⌜ r .answer ≡ reading (now (file .entry)) ⌝ }
@@ -165,25 +203,17 @@ pub fn open(file: &[u8]) -> Opened
     let walked = riff::chunks(file);
     match walked {
         Walked::Whole(places) => open_chunks(file, places),
-        Walked::Stopped(refusal) => Opened {
-            answer: rules::turned_away(refusal),
-            sound: Spot::Missing,
-            titles: Spot::Missing,
-        },
+        Walked::Stopped(refusal) => shut(refusal),
     }
 }
 
-// Puts the texts of a file that was read from the start of a lent buffer, where there is room for them.
-fn put_texts(file: &[u8], opened: Opened, texts: &mut [u8]) -> bool
-    requires { ⌜ (opened .answer ≡ reading (now file)) × (opened .answer .verdict ≡ Accepted) × (opened .titles ≡ titlesSpot (now file)) ⌝ }
+// Puts the texts of a file that was opened from the start of a lent buffer, where there is room for them.
+pub fn put_texts(file: &[u8], spot: Spot, end: usize, texts: &mut [u8]) -> bool
+    requires { ⌜ (spot ≡ titlesSpot (now file)) × (end ≡ length (textsIn (now file))) ⌝ }
     ensures answer { λ r. ⌜ r ≡ leb (length (textsIn (now (file .entry)))) (length (now (texts .entry))) ⌝ }
     ensures buffer { λ r. ⌜ now (texts .exit) ≡ cond r (front (textsIn (now (file .entry))) (now (texts .entry))) (now (texts .entry)) ⌝ }
 {
-    let answer = opened.answer;
-    let made = answer.made;
-    let titles = made.titles;
-    let spot = opened.titles;
-    if texts.len() < titles::texts_end(titles) {
+    if texts.len() < end {
         return false;
     }
     if !riff::there(spot) {
@@ -200,12 +230,15 @@ pub fn read(file: &[u8], texts: &mut [u8]) -> Reading
     ensures buffer { λ r. ⌜ now (texts .exit) ≡ holding (r .verdict) (textsIn (now (file .entry))) (now (texts .entry)) ⌝ }
 {
     let opened = open(file);
+    let spot = opened.titles;
     let answer = opened.answer;
     let verdict = answer.verdict;
     let Verdict::Accepted = verdict else {
         return answer;
     };
-    if !put_texts(file, opened, texts) {
+    let made = answer.made;
+    let end = titles::texts_end(made.titles);
+    if !put_texts(file, spot, end, texts) {
         return rules::turned_away(Refusal::OutputTooSmall);
     }
     answer

@@ -172,8 +172,8 @@ module _ (s : List ℕ) {spot : Spot} (h : spot ≡ titlesSpot s) {l : List ℕ}
   unfolding titlesIn TitlesTold
   list-carried {m} a r j =
       record {
-        short = list-short s {r = reading s} refl h i;
-        form = list-formed s {r = reading s} refl h i j;
+        short = list-short s h i;
+        form = list-formed s h i j;
         titles = a ∙ titles-made s ∙ ap titlesOf (sym list-so);
         said =
             ap (λ (b : List ℕ). entriesOf b (titlesOf l)) (sym (append-nil (textsOf (entriesIn l))))

@@ -23,10 +23,9 @@ use Rattle.riff.specs.declared.Spot.{Spot}
 use Rattle.riff.specs.Walk.{partOf, startOf}
 use Rattle.rules.specs.declared.Record.{Record}
 use Rattle.rules.specs.declared.Reading.{Reading}
-use Rattle.rules.specs.Rules.{turnedAway}
-use Rattle.reader.specs.Content.{reading, soundSpot, soundIn, soundStart, textsIn, readingIn}
+use Rattle.reader.specs.Content.{reading, soundSpot, soundIn, soundStart, textsIn}
 use Rattle.reader.proofs.Demands.{sound-placed}
-use Rattle.reader.proofs.Titles.{read-refused}
+use Rattle.reader.proofs.Titles.{known-few, as-long}
 use Rattle.writer.specs.declared.Written.{Written}
 use Rattle.writer.specs.declared.Written.the-variants as written
 use Rattle.writer.specs.File.{fileOf, writing, writtenVerdict}
@@ -162,16 +161,13 @@ module _ (n : ℕ) (s : List ℕ) (room : ℕ) {x : Reading} (e : x ≡ reading 
 pub ruleset reading-first = (answer-refused, kept-refused, sound-told, start-kept)
 
 -- ---- a record and the texts of its titles
--- a verdict's number, and the words that are put by it
+-- a verdict's number, and the elements that are put by it
 module _ {v : Verdict} {r : Refusal} (f : v ≡ verdict.Refused r) where
   pub refused-number : {k : ℕ} → k ≡ numberOf r → k ≡ verdictNumber v
   refused-number g = g ∙ ap verdictNumber (sym f)
 
   pub refused-kept : (ys d : List ℕ) → d ≡ holding v ys d
   refused-kept ys d = ap (λ (u : Verdict). holding u ys d) (sym f)
-
-  pub short-refused : {k : ℕ} (u : Verdict) → k ≡ numberOf r → k ≡ verdictNumber (andThen v u)
-  short-refused u g = g ∙ ap (λ (x : Verdict). verdictNumber (andThen x u)) (sym f)
 
 module _ {v : Verdict} (f : v ≡ verdict.Accepted) where
   pub taken-number : 0 ≡ verdictNumber v
@@ -180,66 +176,73 @@ module _ {v : Verdict} (f : v ≡ verdict.Accepted) where
   pub taken-kept : (ys d : List ℕ) {z : List ℕ} → z ≡ front ys d → z ≡ holding v ys d
   taken-kept ys d g = g ∙ ap (λ (u : Verdict). holding u ys d) (sym f)
 
-  pub short-taken : {k : ℕ} (r : Refusal) → k ≡ numberOf r → k ≡ verdictNumber (andThen v (verdict.Refused r))
-  short-taken r g = g ∙ ap (λ (x : Verdict). verdictNumber (andThen x (verdict.Refused r))) (sym f)
+-- room for the words and for the texts
+module _ (n words room : ℕ) where
+  pub few-words : words < 906 → roomFor n words room ≡ verdict.Refused OutputTooSmall
+  unfolding roomFor decided
+  few-words h = simp (lt-leb 906 words h)
 
-pub verdict-of : (s : List ℕ) {x : Reading} {v : Verdict} → x ≡ reading s → x .verdict ≡ v → reading s .verdict ≡ v
-verdict-of s e f = ap (λ (y : Reading). y .verdict) (sym e) ∙ f
+  module _ (h : 906 ≤ words) where
+    by-texts : roomFor n words room ≡ cond (leb n room) verdict.Accepted (verdict.Refused OutputTooSmall)
+    unfolding roomFor decided
+    by-texts = simp (le-leb 906 words h)
 
-pub ruleset putting = (refused-number, refused-kept, short-refused, taken-number, taken-kept, short-taken, verdict-of)
+    module _ {b : Bool} (e : b ≡ leb n room) where
+      by-told : roomFor n words room ≡ cond b verdict.Accepted (verdict.Refused OutputTooSmall)
+      by-told = by-texts ∙ ap (λ (c : Bool). cond c verdict.Accepted (verdict.Refused OutputTooSmall)) (sym e)
 
-module _ (s : List ℕ) (words room : ℕ) where
-  -- too few words
-  module _ (h : words < 906) where
-    few : recordVerdict s words room ≡ andThen (reading s .verdict) (verdict.Refused OutputTooSmall)
-    unfolding recordVerdict roomFor decided
-    few = simp (lt-leb 906 words h)
+      pub room-short : not b ≡ true → roomFor n words room ≡ verdict.Refused OutputTooSmall
+      room-short g = by-told ∙ simp (not-true b g)
 
-    pub few-number : {k : ℕ} → k ≡ verdictNumber (andThen (reading s .verdict) (verdict.Refused OutputTooSmall)) → k ≡ verdictNumber (recordVerdict s words room)
-    few-number e = e ∙ ap verdictNumber (sym few)
+      pub room-kept : not b ≡ true → (ys d : List ℕ) → d ≡ holding (roomFor n words room) ys d
+      room-kept g ys d = refused-kept (room-short g) ys d
 
-    pub few-kept : (ys d : List ℕ) → d ≡ holding (recordVerdict s words room) ys d
-    few-kept ys d = by (reading s .verdict) ∙ ap (λ (v : Verdict). holding v ys d) (sym few)
-      where
-        by : (v : Verdict) → d ≡ holding (andThen v (verdict.Refused OutputTooSmall)) ys d
-        by verdict.Accepted = refl
-        by (verdict.Refused r) = refl
+      pub room-enough : not b ≡ false → roomFor n words room ≡ verdict.Accepted
+      room-enough g = by-told ∙ simp (not-false b g)
 
-  -- words enough: then it is reading's own answer, with room for the texts
-  module _ (h : 906 ≤ words) {x : Reading} (e : x ≡ readingIn s room) where
-    texts-verdict : (v : Verdict) → reading s .verdict ≡ v → andThen v (cond (leb (length (textsIn s)) room) verdict.Accepted (verdict.Refused OutputTooSmall)) ≡ readingIn s room .verdict
-    unfolding readingIn
-    texts-verdict verdict.Accepted f = by (leb (length (textsIn s)) room)
-      where
-        by : (b : Bool) → cond b verdict.Accepted (verdict.Refused OutputTooSmall) ≡ cond b (reading s) (turnedAway OutputTooSmall) .verdict
-        by true = sym f
-        by false = refl
-    texts-verdict (verdict.Refused r) f = sym f ∙ ap (λ (y : Reading). y .verdict) (read-refused s room refl f)
+      pub texts-lent : (ys d : List ℕ) {z : List ℕ} → z ≡ cond b (front ys d) d → z ≡ holding (roomFor n words room) ys d
+      texts-lent ys d g = g ∙ by b ∙ ap (λ (v : Verdict). holding v ys d) (sym by-told)
+        where
+          by : (c : Bool) → cond c (front ys d) d ≡ holding (cond c verdict.Accepted (verdict.Refused OutputTooSmall)) ys d
+          by true = refl
+          by false = refl
 
-    same-verdict : recordVerdict s words room ≡ x .verdict
-    unfolding recordVerdict roomFor decided
-    same-verdict =
-        simp (le-leb 906 words h) (texts-verdict (reading s .verdict) refl) ∙ ap (λ (y : Reading). y .verdict) (sym e)
+pub words-of : (s d : List ℕ) {x : Reading} {z : List ℕ} → x ≡ reading s → z ≡ front (recordWords (x .made)) d
+    → z ≡ front (recordWords (reading s .made)) d
+words-of s d e f = f ∙ ap (λ (y : Reading). front (recordWords (y .made)) d) e
 
-    pub enough-number : {k : ℕ} → k ≡ verdictNumber (x .verdict) → k ≡ verdictNumber (recordVerdict s words room)
-    enough-number g = g ∙ ap verdictNumber (sym same-verdict)
+pub ruleset putting =
+    (refused-number, refused-kept, taken-number, taken-kept, few-words, room-short, room-kept, room-enough, texts-lent, words-of, known-few, as-long)
 
-    pub enough-texts : (ys d : List ℕ) {z : List ℕ} → z ≡ holding (x .verdict) ys d → z ≡ holding (recordVerdict s words room) ys d
-    enough-texts ys d g = g ∙ ap (λ (v : Verdict). holding v ys d) (sym same-verdict)
+-- the reader's refusals go first
+module _ (s : List ℕ) (words room : ℕ) {x : Reading} (e : x ≡ reading s) where
+  abbrev lent : Verdict
+  lent = roomFor (length (textsIn s)) words room
 
-    pub enough-words : (d : List ℕ) {z : List ℕ} → z ≡ holding (x .verdict) (recordWords (x .made)) d
-        → z ≡ holding (recordVerdict s words room) (recordWords (reading s .made)) d
-    unfolding readingIn
-    enough-words d g = g ∙ by (leb (length (textsIn s)) room) e ∙ ap (λ (v : Verdict). holding v (recordWords (reading s .made)) d) (sym same-verdict)
-      where
-        by : (b : Bool) → x ≡ cond b (reading s) (turnedAway OutputTooSmall)
-            → holding (x .verdict) (recordWords (x .made)) d ≡ holding (x .verdict) (recordWords (reading s .made)) d
-        by true f = ap (λ (y : Reading). holding (x .verdict) (recordWords (y .made)) d) f
-        by false f =
-            ap (λ (y : Reading). holding (y .verdict) (recordWords (x .made)) d) f
-            ∙ sym (ap (λ (y : Reading). holding (y .verdict) (recordWords (reading s .made)) d) f)
+  module _ {r : Refusal} (f : x .verdict ≡ verdict.Refused r) where
+    record-turned : recordVerdict s words room ≡ verdict.Refused r
+    unfolding recordVerdict
+    record-turned = ap (λ (v : Verdict). andThen v lent) (ap (λ (y : Reading). y .verdict) (sym e) ∙ f)
 
-pub ruleset record-read = (few-number, few-kept, enough-number, enough-texts, enough-words)
+    pub record-refused : {k : ℕ} → k ≡ numberOf r → k ≡ verdictNumber (recordVerdict s words room)
+    record-refused g = refused-number record-turned g
+
+    pub record-left : (ys d : List ℕ) → d ≡ holding (recordVerdict s words room) ys d
+    record-left ys d = refused-kept record-turned ys d
+
+  module _ (f : x .verdict ≡ verdict.Accepted) where
+    record-taken : lent ≡ recordVerdict s words room
+    unfolding recordVerdict
+    record-taken = ap (λ (v : Verdict). andThen v lent) (sym f ∙ ap (λ (y : Reading). y .verdict) e)
+
+    pub record-number : {k : ℕ} → k ≡ verdictNumber (roomFor (length (textsIn s)) words room) → k ≡ verdictNumber (recordVerdict s words room)
+    record-number g = g ∙ ap verdictNumber record-taken
+
+    pub record-kept : (ys d : List ℕ) {z : List ℕ} → z ≡ holding (roomFor (length (textsIn s)) words room) ys d
+        → z ≡ holding (recordVerdict s words room) ys d
+    record-kept ys d g = g ∙ ap (λ (v : Verdict). holding v ys d) record-taken
+
+pub ruleset record-read = (record-refused, record-left, record-number, record-kept)
 
 -- ---- words for a record
 module _ (w : List ℕ) where

@@ -1,7 +1,7 @@
 // The C interface of the library: its operations over numbers and lent buffers, as include/tronalhet.h
 // declares them. A refusal is its number, and 0 is success.
+use reader::Opened;
 use riff::Spot;
-use rules::Reading;
 use units::Donation;
 use units::Frames;
 use units::Refusal;
@@ -11,13 +11,9 @@ use wave::Encoded;
 use wave::Written;
 ghost use mathlib.Core.Path.{_≡_};
 ghost use mathlib.Core.List.{[], _∷_};
-ghost use Prim.Native.Nat.{_≤_};
 ghost use lib.ListN.{length};
-ghost use Rattle.units.specs.declared.Refusal.the-variants.{OutputTooSmall};
-ghost use Rattle.units.specs.declared.Verdict.the-variants.{Refused};
 ghost use Rattle.units.specs.Refusals.{numberOf, verdictNumber};
-ghost use Rattle.units.specs.Checks.{andThen};
-ghost use Rattle.reader.specs.Content.{reading, soundIn, soundStart, textsIn};
+ghost use Rattle.reader.specs.Content.{reading, soundIn, soundStart, titlesSpot, textsIn};
 ghost use Rattle.riff.specs.Walk.{partOf, startOf};
 ghost use Rattle.little.specs.Writing.{holding};
 ghost use Rattle.writer.specs.File.{fileOf, writing, writtenVerdict};
@@ -27,7 +23,7 @@ ghost use Rattle.decode.specs.Decoding.{decoding, blockDecoding, fileSound, fil
 ghost use Rattle.side.specs.Adding.{adding, newFile, emptySide};
 ghost use Rattle.words.specs.Words.{recordWords, recordFrom};
 ghost use Rattle.wave_c.specs.Interface.{refusedBy, done, ofWritten, ofDecoded, ofEncoded, answerBy, enough};
-ghost use Rattle.wave_c.specs.Interface.{readVerdict, recordVerdict, wordsValid, wordsWriting};
+ghost use Rattle.wave_c.specs.Interface.{readVerdict, roomFor, recordVerdict, wordsValid, wordsWriting};
 
 // How many bytes or frames there are, or the number of the refusal.
 #[repr(C)]
@@ -113,34 +109,31 @@ fn of_encoded(answer: Encoded) -> CodedAnswer
 
 // ---- reading
 
-// The number of a file for whose record there is no room: the reader's, or else 14.
-fn read_short(file: &[u8]) -> u32
-    ensures answer { λ r. ⌜ r ≡ verdictNumber (andThen (reading (now (file .entry)) .verdict) (Refused OutputTooSmall)) ⌝ }
+// Puts the record of a file that was opened and taken, as words from the start of a lent buffer, and the texts of
+// its titles, from the start of another, where there is room for both.
+fn put_opened(file: &[u8], opened: Opened, out: &mut [u32], texts: &mut [u8]) -> u32
+    requires { ⌜ (opened .answer ≡ reading (now file)) × (opened .titles ≡ titlesSpot (now file)) ⌝ }
+    ensures answer { λ r. ⌜ r
+        ≡ verdictNumber (roomFor (length (textsIn (now (file .entry)))) (length (now (out .entry))) (length (now (texts .entry)))) ⌝ }
+    ensures words { λ r. ⌜ now (out .exit)
+        ≡ holding (roomFor (length (textsIn (now (file .entry)))) (length (now (out .entry))) (length (now (texts .entry))))
+        (recordWords (reading (now (file .entry)) .made)) (now (out .entry)) ⌝ }
+    ensures texts { λ r. ⌜ now (texts .exit)
+        ≡ holding (roomFor (length (textsIn (now (file .entry)))) (length (now (out .entry))) (length (now (texts .entry))))
+        (textsIn (now (file .entry))) (now (texts .entry)) ⌝ }
 {
-    let opened = reader::open(file);
-    let reading = opened.answer;
-    let verdict = reading.verdict;
-    match verdict {
-        Verdict::Refused(refusal) => number_of(refusal),
-        Verdict::Accepted => number_of(Refusal::OutputTooSmall),
+    if out.len() < words::WORDS {
+        return number_of(Refusal::OutputTooSmall);
     }
-}
-
-// Puts the record of a file that was taken, as words from the start of a lent buffer.
-fn put_reading(reading: Reading, out: &mut [u32]) -> u32
-    requires { ⌜ 906 ≤ length (now out) ⌝ }
-    ensures answer { λ r. ⌜ r ≡ verdictNumber (reading .verdict) ⌝ }
-    ensures buffer { λ r. ⌜ now (out .exit) ≡ holding (reading .verdict) (recordWords (reading .made)) (now (out .entry)) ⌝ }
-{
-    let verdict = reading.verdict;
-    let made = reading.made;
-    match verdict {
-        Verdict::Refused(refusal) => number_of(refusal),
-        Verdict::Accepted => {
-            words::put_record(out, made);
-            0
-        }
+    let spot = opened.titles;
+    let answer = opened.answer;
+    let made = answer.made;
+    let end = titles::texts_end(made.titles);
+    if !reader::put_texts(file, spot, end, texts) {
+        return number_of(Refusal::OutputTooSmall);
     }
+    words::put_record(out, made);
+    0
 }
 
 // The record of a file, as words from the start of a lent buffer, and the texts of its titles, from the start
@@ -156,11 +149,13 @@ pub extern "C" fn tronalhet_read(file: &[u8], out: &mut [u32], texts: &mut [u8])
         ≡ holding (recordVerdict (now (file .entry)) (length (now (out .entry))) (length (now (texts .entry))))
         (textsIn (now (file .entry))) (now (texts .entry)) ⌝ }
 {
-    if out.len() < words::WORDS {
-        return read_short(file);
+    let opened = reader::open(file);
+    let reading = opened.answer;
+    let verdict = reading.verdict;
+    match verdict {
+        Verdict::Refused(refusal) => number_of(refusal),
+        Verdict::Accepted => put_opened(file, opened, out, texts),
     }
-    let reading = wave::read(file, texts);
-    put_reading(reading, out)
 }
 
 // Where a chunk's data start; of a missing chunk, nowhere.

@@ -7,6 +7,11 @@ use Rattle.reader.proofs.open.Tie as tie
 pub open-spec : {M : Type 1} → statement M
 open-spec =
     tie.close
-    (tie.spec (λ c κs. search (needs, whole)) (λ c. search (needs, whole)) (λ c κs. search (needs, whole))
-    (λ c. search (needs, whole)) (λ c κs. search (needs, whole)) (λ c. search (needs, whole))
+    (tie.spec
+    (λ c κs. search (needs, whole))
+    (λ c. search (needs, whole))
+    (λ c κs. search (needs, whole))
+    (λ c. search (needs, whole))
+    (λ c κs. search (needs, whole))
+    (λ c. search (needs, whole))
     (λ c. search (needs, whole)))

@@ -7,7 +7,13 @@ use Rattle.reader.proofs.put_texts.Tie as tie
 pub put-texts-spec : {M : Type 1} → statement M
 put-texts-spec =
     tie.close
-    (tie.spec (λ c κs. search (needs, texting)) (λ c. search (needs, texting)) (λ c κs. search (needs, texting))
-    (λ c. search (needs, texting)) (λ c. search (needs, texting)) (λ c κs. search (needs, texting))
-    (λ c κs. search (needs, texting)) (λ c κs. search (needs, texting)) (λ c. search (needs, texting))
+    (tie.spec
+    (λ c. search (needs, texting))
+    (λ c κs. search (needs, texting))
+    (λ c. search (needs, texting))
+    (λ c. search (needs, texting))
+    (λ c κs. search (needs, texting))
+    (λ c κs. search (needs, texting))
+    (λ c κs. search (needs, texting))
+    (λ c. search (needs, texting))
     (λ c. search (needs, texting)))

@@ -7,7 +7,15 @@ use Rattle.reader.proofs.read.Tie as tie
 pub read-spec : {M : Type 1} → statement M
 read-spec =
     tie.close
-    (tie.spec (λ c κs. search (needs, reads)) (λ c. search (needs, reads)) (λ c. search (needs, reads))
-    (λ c. search (needs, reads)) (λ c κs. search (needs, reads)) (λ c κs. search (needs, reads))
-    (λ c. search (needs, reads)) (λ c. search (needs, reads)) (λ c. search (needs, reads))
+    (tie.spec
+    (λ c κs. search (needs, reads))
+    (λ c. search (needs, reads))
+    (λ c. search (needs, reads))
+    (λ c. search (needs, reads))
+    (λ c κs. search (needs, reads))
+    (λ c κs. search (needs, reads))
+    (λ c κs. search (needs, reads))
+    (λ c. search (needs, reads))
+    (λ c. search (needs, reads))
+    (λ c. search (needs, reads))
     (λ c. search (needs, reads)))

@@ -1,4 +1,4 @@
--- The others' refusal, a second list, no list, or what the list says.
+-- The others' refusal, a second list, or what the list says.
 use Rattle.reader.proofs.Titles.{titling}
 use borrow.Author.Needs.{needs}
 use Rattle.reader.proofs.read_titles.Statement.{statement}
@@ -7,7 +7,14 @@ use Rattle.reader.proofs.read_titles.Tie as tie
 pub read-titles-spec : {M : Type 1} → statement M
 read-titles-spec =
     tie.close
-    (tie.spec (λ c. search (needs, titling)) (λ c. search (needs, titling)) (λ c. search (needs, titling))
-    (λ c κs. search (needs, titling)) (λ c. search (needs, titling)) (λ c κs. search (needs, titling))
-    (λ c. search (needs, titling)) (λ c. search (needs, titling)) (λ c κs. search (needs, titling))
-    (λ c κs. search (needs, titling)) (λ c κs. search (needs, titling)) (λ c. search (needs, titling)))
+    (tie.spec
+    (λ c. search (needs, titling))
+    (λ c. search (needs, titling))
+    (λ c. search (needs, titling))
+    (λ c κs. search (needs, titling))
+    (λ c. search (needs, titling))
+    (λ c. search (needs, titling))
+    (λ c κs. search (needs, titling))
+    (λ c κs. search (needs, titling))
+    (λ c κs. search (needs, titling))
+    (λ c. search (needs, titling)))
