@@ -58,7 +58,7 @@ fn written_lines(file: &[u8], coded: Coded, n: usize) {
 
 // Writes the blocks of a sound of n samples to a lent buffer.
 fn write(made: Record, blocks: &[u8], coded: Coded, n: usize, out: &mut [u8]) {
-    match writer::write(made, blocks, out) {
+    match writer::write(made, b"", blocks, out) {
         Written::Bytes(size) => written_lines(
             little::bytes_from(out, BytePlace(0), size),
             coded,

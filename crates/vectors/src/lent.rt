@@ -1,6 +1,8 @@
-// Lent buffers: how much of a sound is lent, and what is printed of a buffer. One of bytes has 16,384 at most, each of
-// which was 170 before; printed are the answer, what was written, and whether the rest is untouched.
+// Lent buffers: how much of a sound is lent, the texts of titles in one, and what is printed of a buffer. One of bytes
+// has 16,384 at most, each of which was 170 before; printed are the answer, what was written, and whether the rest is
+// untouched.
 use crate::entries::past;
+use titles::Titles;
 use units::BytePlace;
 use units::Refusal;
 ghost use mathlib.Core.Path.{_≡_};
@@ -16,6 +18,15 @@ pub fn count(n: usize, sound: &[i16]) -> usize
         return sound.len();
     }
     n
+}
+
+// The texts of titles, which stand from the start of some bytes; of more titles than there can be, all the bytes.
+pub fn texts_of(titles: Titles, bytes: &[u8]) -> &[u8] {
+    if 128 < titles.count {
+        return bytes;
+    }
+    let size = titles::texts_end(titles);
+    little::bytes_from(bytes, BytePlace(0), BytePlace(size))
 }
 
 // Bytes after a word.
@@ -48,7 +59,7 @@ fn file_line(file: &[u8]) {
 }
 
 // Whether what nothing was written to is as it was.
-fn rest_line(rest: &[u8]) {
+pub fn rest_line(rest: &[u8]) {
     let before = [170u8; 16384];
     let n = rest.len();
     show::field(b"rest ", n as u64);

@@ -29,7 +29,8 @@ fn refusal_in(row: u16) -> Refusal {
         17 => Refusal::NoPlaceOnSide,
         18 => Refusal::AlreadyListed,
         19 => Refusal::NotASide,
-        _ => Refusal::NoSuchBlock,
+        20 => Refusal::NoSuchBlock,
+        _ => Refusal::TitlesWrong,
     }
 }
 

@@ -1,4 +1,4 @@
--- The number counts up to 393.
+-- The number counts up to 906.
 use Prim.Native.Nat.{_-_}
 use borrow.Author.Needs.{needs}
 use Rattle.vectors.proofs.writing.same_words.Statement.{statement}
@@ -8,7 +8,7 @@ abbrev Inv-loop : tie.InvT-loop
 Inv-loop a b i₀ i = Unit {0}
 
 abbrev μ-loop : tie.MeasureT-loop
-μ-loop a b i₀ i = 393 - i
+μ-loop a b i₀ i = 906 - i
 
 pub same-words-spec : {M : Type 1} → statement M
 same-words-spec =
