@@ -3,16 +3,16 @@
 
     python3 -m c [COUNT [SEED]]     in tests/, after tests/c/run, which runs it too; COUNT files are generated
 
-Each answer must be what the second implementations in Python say; and, of the files of tests/data, what sox, ffmpeg
-and libsndfile report of them, hear in them or make of them.
+Each answer must be what the second implementations in Python say; and, of the files of tests/data, what other programs
+report of them, hear in them or make of them.
 """
 import hashlib
 import sys
 
-from c.request import WORDS, Library
+from c.request import WORDS, Library, record_of
 from c.story import the_story
-from data import others, written_files
-from data.others import CODED, HEARD, NOT_HEARD, REPORTED, WRITTEN
+from data import others, titled_files, written_files
+from data.others import CODED, HEARD, NOT_HEARD, REPORTED, TITLED, WRITTEN
 from data.songs import LIMIT, NUMBER, listed_after, onto
 from second import reader as second_reader, side as second_side
 from trying import expect, report
@@ -138,6 +138,30 @@ def written(library):
         expect(f'{label}, whether it comes out as it stands', again(library, label, file) == file, True)
 
 
+def titles_in(answer):
+    """The titles that were read, each as (kind, name, text with its zero)."""
+    record = record_of(answer.buffer[:4 * WORDS])
+    return [(kind, name, answer.titles[start:start + length + 1])
+            for kind, name, start, length in record.titles[:record.title_count]]
+
+
+def titled(library):
+    """The files of titled/ have the titles that other programs report of them, also after they are written again, and
+    are refused as it is said there; those as `write` must write them come out as they stand."""
+    titled_files.check()
+    for path in others.paths(TITLED):
+        file, wanted = path.read_bytes(), titled_files.reported(path)
+        expect(f'{path.name}, whether another program reports titles of it', wanted != [], True)
+        found, made = library.ask(path.name, 'read', (WORDS, len(file)), file), again(library, path.name, file)
+        if path.name in titled_files.REFUSED:
+            expect(f'{path.name}, by hand', [found.refusal, made], [titled_files.REFUSED[path.name]] * 2)
+            continue
+        expect(f'{path.name}, its titles', titles_in(found), wanted)
+        expect(f'{path.name}, its titles when it is written again', second_reader.titles(made), wanted)
+        if path.name.startswith('written'):
+            expect(f'{path.name}, whether it comes out as it stands', made == file, True)
+
+
 def written_again(library):
     """Files that other programs made come out as it is said above."""
     for name, said in AGAIN.items():
@@ -208,7 +232,7 @@ def all_calls(library, label, file):
 
 def all_files(count, seed):
     """All files of tests/data, those at the borders of the rules for reading, and generated ones, each with a label."""
-    yield from others.files_in(REPORTED, HEARD, CODED, WRITTEN).items()
+    yield from others.files_in(REPORTED, HEARD, CODED, WRITTEN, TITLED).items()
     yield from ((label, file) for label, file, _ in wave_files.all_files())
     yield 'the most titles and the longest texts', wave_files.most_titles()
     yield from ((f'generated file {place}', file) for place, file in enumerate(many_files.files(count, seed)))
@@ -216,8 +240,8 @@ def all_files(count, seed):
 
 def main(count=2000, seed=1):
     with Library() as library:
-        for part in (coded, heard, without_pad, written, written_again, reported_songs, heard_songs, songs_on_sides,
-                     the_story):
+        for part in (coded, heard, without_pad, written, titled, written_again, reported_songs, heard_songs,
+                     songs_on_sides, the_story):
             part(library)
         for label, file in all_files(int(count), int(seed)):
             all_calls(library, label, file)

@@ -1,20 +1,22 @@
-"""The files of sox, ffmpeg and libsndfile in this folder, and what document 01 says of them.
+"""The files of other programs in this folder, and what document 01 says of them.
 
     reported/   NAME.wav, and in NAME.txt what the program that made it reports of it
     heard/      NAME.wav, and in NAME.heard its sound as another program hears it; of a file without its last pad also
                 NAME.txt, the sums of what the three programs hear in it
     coded/      NAME.raw, a sound, and in NAME.wav libsndfile's IMA blocks of it
     written/    NAME.wav as `write` must write it, and in NAME.txt what the three programs report of it
+    titled/     NAME.wav with titles, by other programs or as `write` must write it, and in NAME.txt what six programs
+                report of it
 
 The script `make` of each folder made all that is there. Nothing here looks into a WAVE file.
 """
 import pathlib
 import re
 
-REPORTED, HEARD, CODED, WRITTEN = (pathlib.Path(__file__).resolve().parent / name
-                                   for name in ('reported', 'heard', 'coded', 'written'))
+REPORTED, HEARD, CODED, WRITTEN, TITLED = (pathlib.Path(__file__).resolve().parent / name
+                                           for name in ('reported', 'heard', 'coded', 'written', 'titled'))
 # How many WAVE files each folder has.
-HELD = {REPORTED: 31, HEARD: 27, CODED: 9, WRITTEN: 21}
+HELD = {REPORTED: 31, HEARD: 27, CODED: 9, WRITTEN: 21, TITLED: 19}
 
 # The encodings that document 01 accepts, as sox, ffmpeg and libsndfile call them.
 TAGS = {
