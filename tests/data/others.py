@@ -64,8 +64,8 @@ def files_in(*folders):
 
 
 def other_files():
-    """The files that other programs made, but for those of coded/, whose sound alone counts."""
-    return files_in(HEARD, REPORTED)
+    """The files that other programs made, but for those of coded/, whose sound alone counts; and all with titles."""
+    return files_in(HEARD, REPORTED, TITLED)
 
 
 def without_pad():

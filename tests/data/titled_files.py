@@ -11,8 +11,8 @@ Beside each NAME.wav stands NAME.txt, the reports. Each program is asked for wha
     ffmpeg          labels, as names of chapters, where `fmt ` comes before the cues, up to the first chunk of the list
                     that is no label
     libsndfile      labels up to the first chunk of the list that is none; it prints those of cues below 10
-    GStreamer       labels and notes, as titles and comments of tracks, of PCM where `fmt ` comes before the cues and the
-                    sound is of an even length; not such as are empty or no UTF-8
+    GStreamer       labels and notes, as titles and comments of tracks, of PCM where `fmt ` comes before the cues and
+                    the sound is of an even length; not such as are empty or no UTF-8
 """
 import re
 
@@ -159,12 +159,8 @@ def report_of(path):
 
 def reported(path):
     """The titles of a file in its order, by the report of ExifTool; each as (kind, name, text with its zero)."""
-    return [(kind, name, text.encode('latin-1') + b'\0') for kind, name, text in dict(said(report_of(path)))['ExifTool']]
-
-
-def accepted():
-    """The path of each file that is accepted."""
-    return [path for path in paths(TITLED) if path.name not in REFUSED]
+    return [(kind, name, text.encode('latin-1') + b'\0')
+            for kind, name, text in exiftool(sections(report_of(path))['ExifTool'])]
 
 
 def check():

@@ -23,7 +23,7 @@ from host.slips import (backups, closed_pipes, closed_streams, kept_twice, links
                         names_on_one_line, not_replaced, nothing_written, other_sounds, several_names)
 from host.together import elsewhere, many_decodes, replaced_meanwhile, stuck_songs, ten_adds, ten_sides, waits
 from host.titles import (carried, long_lists, no_place_for_titles, no_such_cue, old_files_kept, refused_files,
-                         step_by_step, titles_as_long_as_they_may_be, titles_of_any_file, titles_set)
+                         step_by_step, titles_as_long_as_they_may_be, titles_of_any_file, titles_of_others, titles_set)
 from host.trouble import (devices, hidden_folder, links, modes, new_names, no_memory, not_allowed, not_read, not_shown,
                           not_written, same_file, shared, special_files, unfinished_names)
 from host.wave import by_wave, demonstration, readme, story
@@ -33,16 +33,17 @@ from trying import WRONG, expect, report
 
 # Those that take longest come first, as the parts are run side by side.
 PARTS = (full_size, on_files, two_builds, many_decodes, replaced_meanwhile, placed, glanced, on_kept_sides, records,
-         titles_of_any_file, titles_set, titles_as_long_as_they_may_be, no_such_cue, refused_files, old_files_kept,
-         no_place_for_titles, carried, step_by_step, long_lists, checked, block_places, wrong_files, wrong_songs,
-         other_refusals, ways_out, ways_to_side, ways_out_by_name, three_lines, names, for_scripts, from_input,
-         slow_input, called_wrongly, no_numbers, called, helps, json_page, not_read, not_written, special_files,
-         same_file, links, unfinished_names, new_names, modes, not_allowed, shared, devices, hidden_folder, not_shown,
-         no_memory, full_disk, really_full_disk, past_a_limit, living_parts, no_parts, flushed, not_replaced, meanwhile,
-         other_sounds, backups, kept_twice, links_of_backups, several_names, closed_streams, closed_pipes,
-         names_on_one_line, nothing_written, stuck_songs, waits, elsewhere, ten_adds, ten_sides, handed_over, own_words,
-         playing, built, built_again, changed_meanwhile, not_built, counted, killed_build, everything, not_installed,
-         installed_command, compiled, man_page, completed, by_wave, story, demonstration, readme)
+         titles_of_any_file, titles_of_others, titles_set, titles_as_long_as_they_may_be, no_such_cue, refused_files,
+         old_files_kept, no_place_for_titles, carried, step_by_step, long_lists, checked, block_places, wrong_files,
+         wrong_songs, other_refusals, ways_out, ways_to_side, ways_out_by_name, three_lines, names, for_scripts,
+         from_input, slow_input, called_wrongly, no_numbers, called, helps, json_page, not_read, not_written,
+         special_files, same_file, links, unfinished_names, new_names, modes, not_allowed, shared, devices,
+         hidden_folder, not_shown, no_memory, full_disk, really_full_disk, past_a_limit, living_parts, no_parts,
+         flushed, not_replaced, meanwhile, other_sounds, backups, kept_twice, links_of_backups, several_names,
+         closed_streams, closed_pipes, names_on_one_line, nothing_written, stuck_songs, waits, elsewhere, ten_adds,
+         ten_sides, handed_over, own_words, playing, built, built_again, changed_meanwhile, not_built, counted,
+         killed_build, everything, not_installed, installed_command, compiled, man_page, completed, by_wave, story,
+         demonstration, readme)
 
 
 def alone(part):

@@ -4,7 +4,8 @@ import os
 from host.places import record_of, refusal_of, title_objects, with_junk
 from host.run import ADDED, HOST, KNOWN, MEANINGS, MOST, NEW, added, does, left_out, parts, refuses, tells
 from host.trouble import trouble
-from data.others import other_files
+from data import titled_files
+from data.others import TITLED as TITLED_FILES, other_files, paths
 from trying import SONG, expect, holding, kept, printed, run, tried
 from second import command as second_command, reader as second_reader, writer as second_writer
 from second.command import answer
@@ -136,6 +137,15 @@ def titles_of_any_file():
             for number in {*names[:1], *names[-1:]}:
                 sets(f'a title in {name}', file, number, 'A new title')
                 sets(f'no title in {name}', file, number)
+
+
+def titles_of_others():
+    """`list` reports to a script the titles that another program reports of a file, and by number which it refuses."""
+    for path in paths(TITLED_FILES):
+        number, titles = titled_files.REFUSED.get(path.name, 0), [*title_objects(titled_files.reported(path))]
+        expect(f'{path.name}, whether another program reports titles of it', titles != [], True)
+        tells(f'list {path.name}', ['list', path.name], {path.name: path.read_bytes()},
+              (number, (number, None if number else titles)), lambda told: (told['refused'], told.get('titles')))
 
 
 def refused_files():

@@ -12,6 +12,7 @@ import sys
 from data import others
 from programs import small
 from programs.running import ROOT, run
+from second import reader as second_reader
 from vectors import entries, wave_files
 
 def long_file(n):
@@ -40,6 +41,8 @@ def listings():
         '\n'.join([*wave_files.pcm(), *(f'cue {name} at {name % 4}' for name in range(64))]) + '\n'
     for name, expected in others.listings():
         yield name, run('wave_list', input=(others.REPORTED / name).read_bytes()), expected
+    for label, file in others.files_in(others.TITLED).items():
+        yield label, run('wave_list', input=file), '\n'.join(second_reader.listing(file)[0]) + '\n'
 
 
 def in_pieces(file):
