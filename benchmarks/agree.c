@@ -2,6 +2,7 @@
 
 #include "made.h"
 #include "plain.h"
+#include "second.h"
 #include "tronalhet.h"
 
 #include <stdio.h>
@@ -75,14 +76,42 @@ static bool write_agrees(const struct made *made, size_t frames)
 {
     int16_t *sound = made_sound(made, frames);
     uint32_t record[TRONALHET_RECORD_WORDS];
-    made_record(made, frames, record);
+    uint8_t titles[MADE_TITLE_BYTES];
+    size_t title_bytes = made_record(made, frames, record, titles);
     clear();
-    tronalhet_answer answer = tronalhet_write(record, TRONALHET_RECORD_WORDS, (const uint8_t *)sound,
-                                              frames * made->align, library_out, ROOM);
+    tronalhet_answer answer = tronalhet_write(record, TRONALHET_RECORD_WORDS, titles, title_bytes,
+                                              (const uint8_t *)sound, frames * made->align, library_out, ROOM);
     size_t written = plain_write(made->channels, MADE_RATE, (const uint8_t *)sound, frames * made->align,
                                  plain_out);
     free(sound);
     return answer.refusal == 0 && answer.n == written && same_out();
+}
+
+/* A record, and the texts of its titles with zeros behind them. */
+struct tables {
+    uint32_t record[TRONALHET_RECORD_WORDS];
+    uint8_t titles[MADE_TITLE_BYTES];
+};
+
+/* A file with cues and titles is the same by both, and both read of it what was written. */
+static bool tables_agree(const struct made *made, size_t frames)
+{
+    int16_t *sound = made_sound(made, frames);
+    struct tables put = {{0}, {0}}, by_library = put, by_plain = put;
+    size_t title_bytes = made_record(made, frames, put.record, put.titles), bytes = frames * made->align;
+    clear();
+    tronalhet_answer answer = tronalhet_write(put.record, TRONALHET_RECORD_WORDS, put.titles, title_bytes,
+                                              (const uint8_t *)sound, bytes, library_out, ROOM);
+    tronalhet_answer plain = second_write(put.record, TRONALHET_RECORD_WORDS, put.titles, title_bytes,
+                                          (const uint8_t *)sound, bytes, plain_out, ROOM);
+    free(sound);
+    uint32_t refusal = tronalhet_read(library_out, answer.n, by_library.record, TRONALHET_RECORD_WORDS,
+                                      by_library.titles, MADE_TITLE_BYTES);
+    uint32_t plain_refusal = second_read(library_out, answer.n, by_plain.record, TRONALHET_RECORD_WORDS,
+                                         by_plain.titles, MADE_TITLE_BYTES);
+    return answer.refusal == 0 && plain.refusal == 0 && answer.n == plain.n && same_out() && refusal == 0 &&
+           plain_refusal == 0 && memcmp(&by_library, &put, sizeof put) == 0 &&
+           memcmp(&by_plain, &put, sizeof put) == 0;
 }
 
 /* A side of so many frames and songs gets a song, first a new one and then one that is listed already. */
@@ -115,8 +144,8 @@ static bool told(const char *what, bool agrees, const struct made *made, size_t 
 
 static bool adpcm_agrees(uint32_t channels, uint32_t align, bool clipped, size_t frames)
 {
-    struct made ima = {MADE_IMA, channels, align, clipped, 0};
-    struct made microsoft = {MADE_MICROSOFT, channels, align, clipped, 0};
+    struct made ima = {MADE_IMA, channels, align, clipped, 0, 0};
+    struct made microsoft = {MADE_MICROSOFT, channels, align, clipped, 0, 0};
     return told("IMA headers", headers_agree(&ima), &ima, frames) &&
            told("Microsoft headers", headers_agree(&microsoft), &microsoft, frames) &&
            told("IMA encoding", encode_agrees(&ima, frames), &ima, frames) &&
@@ -126,11 +155,17 @@ static bool adpcm_agrees(uint32_t channels, uint32_t align, bool clipped, size_t
 
 static bool pcm_agrees(uint32_t channels, size_t frames)
 {
-    struct made wide = {MADE_PCM_16, channels, 2 * channels, false, 0};
-    struct made narrow = {MADE_PCM_8, channels, channels, false, 0};
+    struct made wide = {MADE_PCM_16, channels, 2 * channels, false, 0, 0};
+    struct made narrow = {MADE_PCM_8, channels, channels, false, 0, 0};
+    uint32_t cues = (uint32_t)(frames < 64 ? frames : 64);
+    struct made all_titles = {MADE_PCM_16, channels, 2 * channels, false, cues, 2 * cues};
+    struct made some_titles = all_titles;
+    some_titles.titles = (uint32_t)frames % (2 * cues + 1);
     return told("16-bit decoding", decode_agrees(&wide, frames), &wide, frames) &&
            told("8-bit decoding", decode_agrees(&narrow, frames), &narrow, frames) &&
            told("writing", write_agrees(&wide, frames), &wide, frames) &&
+           told("all titles", tables_agree(&all_titles, frames), &all_titles, frames) &&
+           told("some titles", tables_agree(&some_titles, frames), &some_titles, frames) &&
            told("adding", add_agrees(&wide, frames, (uint32_t)(frames % 64)), &wide, frames);
 }
 

@@ -3,7 +3,15 @@
 READS = {
     'read': 'read, no cues',
     'read-cues': 'read, 64 cues and 64 entries',
+    'read-titles': 'read, 64 cues, 64 entries and 128 titles',
 }
+# Files with little sound, so that the tables and the titles count.
+WRITES = {
+    'write-cues': 'write 640 frames, 64 cues and 64 entries',
+    'write-titles': 'write 640 frames, 64 cues, 64 entries and 128 titles',
+}
+# What is counted for each file, whatever its sound.
+BY_FILE = {**READS, **WRITES}
 CODECS = {
     'decode-ima-mono': 'decode IMA, mono',
     'decode-ima-stereo': 'decode IMA, stereo',
@@ -41,11 +49,11 @@ GROWTH = {
     'write': 'write 16-bit PCM',
     'add': 'add a song to a side',
 }
-TITLES = {**READS, **CODECS, **CLIPPED, **COPIES, **OTHER_SOUNDS}
+TITLES = {**BY_FILE, **CODECS, **CLIPPED, **COPIES, **OTHER_SOUNDS}
 
 PLAIN = 'gcc', 'clang'
-# libsndfile adds no songs to a side.
-NOT_OF_SNDFILE = 'add',
+# libsndfile adds no songs to a side, reads titles only up to the first note, and writes neither playlists nor titles.
+NOT_OF_SNDFILE = 'add', 'read-titles', *WRITES
 
 
 def contestants(operation):

@@ -7,7 +7,7 @@
 #include <string.h>
 
 /* What stands before the sound is never longer than this. */
-enum { HEADER_ROOM = 4096 };
+enum { HEADER_ROOM = 16384 };
 /* A longer sound repeats its first samples, since making them takes longer than copying. */
 enum { MADE_SAMPLES = 2097152 };
 
@@ -234,7 +234,26 @@ static void put_cues(uint32_t cues, size_t frames, uint32_t *record)
     }
 }
 
-void made_record(const struct made *made, size_t frames, uint32_t *record)
+/* Titles in the order of the cues, all labels before the notes. Their texts are of 10 to 40 letters. */
+static size_t put_titles(const struct made *made, uint32_t *record, uint8_t *titles)
+{
+    size_t end = 0;
+    record[TRONALHET_TITLES] = made->titles;
+    for (uint32_t i = 0; i < made->titles; i++) {
+        uint32_t length = 10 + 7 * i % 31;
+        uint32_t *title = record + TRONALHET_FIRST_TITLE + TRONALHET_TITLE_WORDS * i;
+        title[TRONALHET_TITLE_KIND] = i / made->cues;
+        title[TRONALHET_TITLE_NAME] = 1000 + i % made->cues;
+        title[TRONALHET_TITLE_START] = (uint32_t)end;
+        title[TRONALHET_TITLE_LENGTH] = length;
+        memset(titles + end, 'a' + (int)(i % 26), length);
+        titles[end + length] = 0;
+        end += length + 1;
+    }
+    return end;
+}
+
+size_t made_record(const struct made *made, size_t frames, uint32_t *record, uint8_t *titles)
 {
     static const uint32_t tags[] = {1, 1, 17, 2};
     static const uint32_t bits[] = {16, 8, 4, 4};
@@ -247,6 +266,7 @@ void made_record(const struct made *made, size_t frames, uint32_t *record)
     record[5] = (uint32_t)made_block_frames(made);
     record[6] = (uint32_t)frames;
     put_cues(made->cues, frames, record);
+    return put_titles(made, record, titles);
 }
 
 struct made_file made_wave(const struct made *made, size_t frames, bool whole_blocks)
@@ -258,10 +278,11 @@ struct made_file made_wave(const struct made *made, size_t frames, bool whole_bl
     size_t sound_bytes = blocks * made->align;
     uint8_t *sound = sound_data(made, held_frames, sound_bytes);
     uint32_t record[TRONALHET_RECORD_WORDS];
-    made_record(made, held_frames, record);
+    uint8_t titles[MADE_TITLE_BYTES];
+    size_t title_bytes = made_record(made, held_frames, record, titles);
     struct made_file file = {made_room(sound_bytes + HEADER_ROOM), 0, held_frames, NULL, sound_bytes};
-    tronalhet_answer answer = tronalhet_write(record, TRONALHET_RECORD_WORDS, sound, sound_bytes, file.bytes,
-                                              sound_bytes + HEADER_ROOM);
+    tronalhet_answer answer = tronalhet_write(record, TRONALHET_RECORD_WORDS, titles, title_bytes, sound,
+                                              sound_bytes, file.bytes, sound_bytes + HEADER_ROOM);
     free(sound);
     size_t start;
     if (answer.refusal != 0 || tronalhet_sound(file.bytes, answer.n, &start, 1).refusal != 0) {

@@ -10,6 +10,8 @@
 /* libsndfile chooses this align at this rate, so all codecs are measured with it. */
 enum { MADE_RATE = 44100, MADE_ALIGN = 2048 };
 enum { MADE_FILE_LIMIT = 1073741824 };
+/* Room for all texts that are made up. */
+enum { MADE_TITLE_BYTES = 8192 };
 
 enum made_format { MADE_PCM_16, MADE_PCM_8, MADE_IMA, MADE_MICROSOFT };
 
@@ -19,6 +21,7 @@ struct made {
     uint32_t align;
     bool clipped; /* noise that is often cut off at the bounds of 16 bits, in place of the usual sound */
     uint32_t cues;
+    uint32_t titles; /* at most two for each cue */
 };
 
 struct made_file {
@@ -32,8 +35,9 @@ struct made_file {
 /* Memory that is there, or the end of the program. */
 void *made_room(size_t bytes);
 
-/* The record of a file, as the C interface has it. */
-void made_record(const struct made *made, size_t frames, uint32_t *record);
+/* The record of a file, as the C interface has it, and the texts of its titles, for which there is room for
+ * MADE_TITLE_BYTES. Answers how many bytes of it they take. */
+size_t made_record(const struct made *made, size_t frames, uint32_t *record, uint8_t *titles);
 
 size_t made_block_frames(const struct made *made);
 

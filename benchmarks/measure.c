@@ -25,9 +25,13 @@
 #include <string.h>
 #include <time.h>
 
-enum { SONG_NUMBER = 7, RECORD_BYTES = 4 * TRONALHET_RECORD_WORDS, ROOM_TO_SPARE = 8192 };
+enum { SONG_NUMBER = 7, RECORD_BYTES = 4 * TRONALHET_RECORD_WORDS, ROOM_TO_SPARE = 16384 };
+/* What is read: the record, and behind it the texts of titles. */
+enum { READ_BYTES = RECORD_BYTES + TRONALHET_MOST_TITLE_BYTES };
+/* The frames of a file that is written for its tables, whatever the size that is asked for. */
+enum { SHORT_FRAMES = 640 };
 
-enum job { READ, DECODE, ENCODE, WRITE, ADD, JOBS };
+enum job { READ, DECODE, ENCODE, WRITE, WRITE_TABLES, ADD, JOBS };
 enum who { LIBRARY, PLAIN, MEMCPY, SNDFILE, CONTESTANTS };
 
 struct operation {
@@ -44,6 +48,8 @@ struct work {
     int16_t *sound; /* that is encoded or written */
     size_t frames;
     uint32_t record[TRONALHET_RECORD_WORDS];
+    uint8_t titles[MADE_TITLE_BYTES];
+    size_t title_bytes;
     uint8_t *out;
     size_t room;
     uint8_t *result; /* within out */
@@ -53,27 +59,30 @@ struct work {
 };
 
 static const struct operation operations[] = {
-    {"read", READ, {MADE_PCM_16, 2, 4, false, 0}},
-    {"read-cues", READ, {MADE_PCM_16, 2, 4, false, 64}},
-    {"read-clipped", READ, {MADE_PCM_16, 2, 4, true, 0}},
-    {"read-ima", READ, {MADE_IMA, 2, MADE_ALIGN, false, 0}},
-    {"read-microsoft", READ, {MADE_MICROSOFT, 2, MADE_ALIGN, false, 0}},
-    {"decode-ima-mono", DECODE, {MADE_IMA, 1, MADE_ALIGN, false, 0}},
-    {"decode-ima-stereo", DECODE, {MADE_IMA, 2, MADE_ALIGN, false, 0}},
-    {"decode-ima-mono-clipped", DECODE, {MADE_IMA, 1, MADE_ALIGN, true, 0}},
-    {"decode-ima-stereo-clipped", DECODE, {MADE_IMA, 2, MADE_ALIGN, true, 0}},
-    {"decode-microsoft-mono", DECODE, {MADE_MICROSOFT, 1, MADE_ALIGN, false, 0}},
-    {"decode-microsoft-stereo", DECODE, {MADE_MICROSOFT, 2, MADE_ALIGN, false, 0}},
-    {"decode-microsoft-mono-clipped", DECODE, {MADE_MICROSOFT, 1, MADE_ALIGN, true, 0}},
-    {"decode-microsoft-stereo-clipped", DECODE, {MADE_MICROSOFT, 2, MADE_ALIGN, true, 0}},
-    {"decode-pcm-16", DECODE, {MADE_PCM_16, 2, 4, false, 0}},
-    {"decode-pcm-8", DECODE, {MADE_PCM_8, 2, 2, false, 0}},
-    {"encode-mono", ENCODE, {MADE_IMA, 1, MADE_ALIGN, false, 0}},
-    {"encode-stereo", ENCODE, {MADE_IMA, 2, MADE_ALIGN, false, 0}},
-    {"encode-mono-clipped", ENCODE, {MADE_IMA, 1, MADE_ALIGN, true, 0}},
-    {"encode-stereo-clipped", ENCODE, {MADE_IMA, 2, MADE_ALIGN, true, 0}},
-    {"write", WRITE, {MADE_PCM_16, 2, 4, false, 0}},
-    {"add", ADD, {MADE_PCM_16, 2, 4, false, 8}},
+    {"read", READ, {MADE_PCM_16, 2, 4, false, 0, 0}},
+    {"read-cues", READ, {MADE_PCM_16, 2, 4, false, 64, 0}},
+    {"read-titles", READ, {MADE_PCM_16, 2, 4, false, 64, 128}},
+    {"read-clipped", READ, {MADE_PCM_16, 2, 4, true, 0, 0}},
+    {"read-ima", READ, {MADE_IMA, 2, MADE_ALIGN, false, 0, 0}},
+    {"read-microsoft", READ, {MADE_MICROSOFT, 2, MADE_ALIGN, false, 0, 0}},
+    {"decode-ima-mono", DECODE, {MADE_IMA, 1, MADE_ALIGN, false, 0, 0}},
+    {"decode-ima-stereo", DECODE, {MADE_IMA, 2, MADE_ALIGN, false, 0, 0}},
+    {"decode-ima-mono-clipped", DECODE, {MADE_IMA, 1, MADE_ALIGN, true, 0, 0}},
+    {"decode-ima-stereo-clipped", DECODE, {MADE_IMA, 2, MADE_ALIGN, true, 0, 0}},
+    {"decode-microsoft-mono", DECODE, {MADE_MICROSOFT, 1, MADE_ALIGN, false, 0, 0}},
+    {"decode-microsoft-stereo", DECODE, {MADE_MICROSOFT, 2, MADE_ALIGN, false, 0, 0}},
+    {"decode-microsoft-mono-clipped", DECODE, {MADE_MICROSOFT, 1, MADE_ALIGN, true, 0, 0}},
+    {"decode-microsoft-stereo-clipped", DECODE, {MADE_MICROSOFT, 2, MADE_ALIGN, true, 0, 0}},
+    {"decode-pcm-16", DECODE, {MADE_PCM_16, 2, 4, false, 0, 0}},
+    {"decode-pcm-8", DECODE, {MADE_PCM_8, 2, 2, false, 0, 0}},
+    {"encode-mono", ENCODE, {MADE_IMA, 1, MADE_ALIGN, false, 0, 0}},
+    {"encode-stereo", ENCODE, {MADE_IMA, 2, MADE_ALIGN, false, 0, 0}},
+    {"encode-mono-clipped", ENCODE, {MADE_IMA, 1, MADE_ALIGN, true, 0, 0}},
+    {"encode-stereo-clipped", ENCODE, {MADE_IMA, 2, MADE_ALIGN, true, 0, 0}},
+    {"write", WRITE, {MADE_PCM_16, 2, 4, false, 0, 0}},
+    {"write-cues", WRITE_TABLES, {MADE_PCM_16, 2, 4, false, 64, 0}},
+    {"write-titles", WRITE_TABLES, {MADE_PCM_16, 2, 4, false, 64, 128}},
+    {"add", ADD, {MADE_PCM_16, 2, 4, false, 8, 0}},
 };
 
 /* ---- The jobs ---- */
@@ -93,15 +102,17 @@ static size_t frame_bytes(const struct work *work)
 static void library_read(struct work *work)
 {
     uint32_t refusal =
-        tronalhet_read(work->file.bytes, work->file.count, (uint32_t *)work->out, TRONALHET_RECORD_WORDS);
-    result_is(work, 0, RECORD_BYTES, refusal != 0);
+        tronalhet_read(work->file.bytes, work->file.count, (uint32_t *)work->out, TRONALHET_RECORD_WORDS,
+                       work->out + RECORD_BYTES, TRONALHET_MOST_TITLE_BYTES);
+    result_is(work, 0, READ_BYTES, refusal != 0);
 }
 
 static void plain_read_job(struct work *work)
 {
     uint32_t refusal =
-        second_read(work->file.bytes, work->file.count, (uint32_t *)work->out, TRONALHET_RECORD_WORDS);
-    result_is(work, 0, RECORD_BYTES, refusal != 0);
+        second_read(work->file.bytes, work->file.count, (uint32_t *)work->out, TRONALHET_RECORD_WORDS,
+                    work->out + RECORD_BYTES, TRONALHET_MOST_TITLE_BYTES);
+    result_is(work, 0, READ_BYTES, refusal != 0);
 }
 
 static void library_decode(struct work *work)
@@ -145,8 +156,16 @@ static void plain_encode_job(struct work *work)
 static void library_write(struct work *work)
 {
     tronalhet_answer answer =
-        tronalhet_write(work->record, TRONALHET_RECORD_WORDS, (const uint8_t *)work->sound,
-                        work->frames * frame_bytes(work), work->out, work->room);
+        tronalhet_write(work->record, TRONALHET_RECORD_WORDS, work->titles, work->title_bytes,
+                        (const uint8_t *)work->sound, work->frames * frame_bytes(work), work->out, work->room);
+    result_is(work, 0, answer.n, answer.refusal != 0);
+}
+
+static void plain_write_tables(struct work *work)
+{
+    tronalhet_answer answer =
+        second_write(work->record, TRONALHET_RECORD_WORDS, work->titles, work->title_bytes,
+                     (const uint8_t *)work->sound, work->frames * frame_bytes(work), work->out, work->room);
     result_is(work, 0, answer.n, answer.refusal != 0);
 }
 
@@ -225,6 +244,7 @@ static void (*const runners[JOBS][CONTESTANTS])(struct work *) = {
     [DECODE] = {library_decode, plain_decode_job, memcpy_decode, OF_SNDFILE(sndfile_decode_job)},
     [ENCODE] = {library_encode, plain_encode_job, NULL, OF_SNDFILE(sndfile_encode_job)},
     [WRITE] = {library_write, plain_write_job, memcpy_write, OF_SNDFILE(sndfile_write_job)},
+    [WRITE_TABLES] = {library_write, plain_write_tables, NULL, NULL},
     [ADD] = {library_add, plain_add_job, memcpy_add, NULL},
 };
 
@@ -254,7 +274,7 @@ static void make_sound(struct work *work, size_t frames)
     size_t blocks = smaller(frames, most) / block_frames;
     work->frames = blocks * block_frames;
     work->sound = made_sound(&work->made, work->frames);
-    made_record(&work->made, work->frames, work->record);
+    work->title_bytes = made_record(&work->made, work->frames, work->record, work->titles);
     work->room = blocks * work->made.align + ROOM_TO_SPARE;
 }
 
@@ -266,10 +286,12 @@ static void make_ready(const struct operation *operation, size_t bytes, struct w
         make_side_and_song(work, frames);
     } else if (operation->job == ENCODE || operation->job == WRITE) {
         make_sound(work, frames);
+    } else if (operation->job == WRITE_TABLES) {
+        make_sound(work, SHORT_FRAMES);
     } else {
         work->file = made_wave(&work->made, frames, true);
         work->frames = work->file.frames;
-        work->room = operation->job == READ ? RECORD_BYTES : work->frames * frame_bytes(work);
+        work->room = operation->job == READ ? READ_BYTES : work->frames * frame_bytes(work);
     }
     work->out = made_room(work->room);
     memset(work->out, 0, work->room);
@@ -334,7 +356,7 @@ static int measure(const struct operation *operation, enum who who, size_t bytes
         for (size_t i = 0; i < repeats; i++)
             run(&work);
     } else {
-        run_timed(run, &work, repeats, operation->job == READ ? 100 : 1);
+        run_timed(run, &work, repeats, operation->job == READ || operation->job == WRITE_TABLES ? 100 : 1);
     }
     if (work.failed) {
         fprintf(stderr, "measure: the job failed\n");
@@ -354,9 +376,9 @@ static int write_file(const char *kind, size_t bytes, const char *path)
         const char *name;
         struct made made;
     } kinds[] = {
-        {"pcm-16", {MADE_PCM_16, 2, 4, false, 0}},          {"pcm-8", {MADE_PCM_8, 2, 2, false, 0}},
-        {"ima", {MADE_IMA, 2, MADE_ALIGN, false, 0}},       {"side", {MADE_PCM_16, 2, 4, false, 8}},
-        {"microsoft", {MADE_MICROSOFT, 2, MADE_ALIGN, false, 0}},
+        {"pcm-16", {MADE_PCM_16, 2, 4, false, 0, 0}},          {"pcm-8", {MADE_PCM_8, 2, 2, false, 0, 0}},
+        {"ima", {MADE_IMA, 2, MADE_ALIGN, false, 0, 0}},       {"side", {MADE_PCM_16, 2, 4, false, 8, 0}},
+        {"microsoft", {MADE_MICROSOFT, 2, MADE_ALIGN, false, 0, 0}},
     };
     for (size_t i = 0; i < sizeof kinds / sizeof *kinds; i++) {
         const struct made *made = &kinds[i].made;

@@ -20,7 +20,7 @@ def better(numbers):
 
 def count_all(runs, size):
     """The guest instructions of all jobs: {operation: {name: instructions, 'samples': samples}}."""
-    operations = [*jobs.READS, *jobs.CODECS, *jobs.CLIPPED, *jobs.COPIES]
+    operations = [*jobs.BY_FILE, *jobs.CODECS, *jobs.CLIPPED, *jobs.COPIES]
     wanted = [(name, operation, size) for operation in operations for name in jobs.contestants(operation)
               if not name.endswith('by SSE2')]
     counts = {operation: {} for operation in operations}
@@ -31,14 +31,14 @@ def count_all(runs, size):
 
 
 def plain_rows(counts, bars):
-    """Against plain C: for each sample, of reads for each file."""
-    for operation in [*jobs.CODECS, *jobs.CLIPPED, *jobs.READS]:
+    """Against plain C: for each sample, of reads and of writes with tables for each file."""
+    for operation in [*jobs.CODECS, *jobs.CLIPPED, *jobs.BY_FILE]:
         numbers = counts[operation]
-        each = 1 if operation in jobs.READS else numbers['samples']
+        each = 1 if operation in jobs.BY_FILE else numbers['samples']
         name = better(numbers)
         ratio = numbers['library'] / numbers[name]
         title = jobs.TITLES[operation]
-        barred = operation not in jobs.READS
+        barred = operation not in jobs.BY_FILE
         yield [title, short(numbers['library'] / each),
                *(short(numbers[plain] / each) if plain in numbers else '' for plain in jobs.PLAIN),
                f'{ratio:.3f}', '1.1' if barred else '',
@@ -62,7 +62,7 @@ def instruction_part(counts, size, bars):
     yield ''
     yield (f'One run of each job on {size_name(size)} of 16-bit sound. The numbers are exact: a job is run twice '
            'and four times, and half the difference is one run. The ratio is the library against the better of the '
-           'two compilers. For each sample; of `read` for each file:')
+           'two compilers. For each sample; of `read`, and of `write` with tables, for each file:')
     yield ''
     yield from table(['Job', 'Library', 'Plain C, gcc', 'Plain C, clang', 'Ratio', 'Bar', 'Verdict'],
                      list(plain_rows(counts, bars)))
@@ -77,7 +77,7 @@ def instruction_part(counts, size, bars):
 
 def repeats_of(operation, size):
     """So many repeats that one run of a job takes some hundredths of a second."""
-    if operation.startswith('read'):
+    if operation in jobs.BY_FILE:
         return 100
     at_once = 60000000 if operation in jobs.COPIES or operation == 'decode-pcm-8' else 6000000
     return max(2, min(300, at_once // size))
@@ -90,15 +90,15 @@ def time_all(runs, sizes, rounds):
         say(f'bench: times for {size_name(size)}')
         found[size] = {operation: runs.times(jobs.contestants(operation), operation, size,
                                              repeats_of(operation, size), rounds)
-                       for operation in [*jobs.CODECS, *jobs.CLIPPED, *jobs.READS, *jobs.COPIES]}
+                       for operation in [*jobs.CODECS, *jobs.CLIPPED, *jobs.BY_FILE, *jobs.COPIES]}
     return found
 
 
 def plain_time_rows(times):
-    """Against plain C: for each sample, of reads for each file."""
-    for operation in [*jobs.CODECS, *jobs.CLIPPED, *jobs.READS]:
+    """Against plain C: for each sample, of reads and of writes with tables for each file."""
+    for operation in [*jobs.CODECS, *jobs.CLIPPED, *jobs.BY_FILE]:
         numbers = times[operation]
-        each = 1 if operation in jobs.READS else numbers['samples']
+        each = 1 if operation in jobs.BY_FILE else numbers['samples']
         ratio = numbers['library'] / numbers[better(numbers)]
         yield [jobs.TITLES[operation], short(numbers['library'] / each),
                *(short(numbers[plain] / each) if plain in numbers else '' for plain in jobs.PLAIN),
@@ -127,7 +127,8 @@ def time_part(times, rounds):
            'run.')
     for size, found in times.items():
         yield ''
-        yield f'{size_name(size)} of 16-bit sound. In ns for each sample; of `read` for each file:'
+        yield (f'{size_name(size)} of 16-bit sound. In ns for each sample; of `read`, and of `write` with tables, for '
+               'each file:')
         yield ''
         yield from table(['Job', 'Library', 'Plain C, gcc', 'Plain C, clang', 'Ratio', 'Within 1.1'],
                          list(plain_time_rows(found)))

@@ -1,9 +1,9 @@
 /* Marks with names and comments, written and read by libaudiofile, whose programs do neither.
  *
- *   audiofile write FILE BITS CHANNELS FRAMES [PLACE NAME COMMENT]..   a WAVE file with marks 1, 2, ..; 4 bits are IMA
- *   audiofile read FILE                                                of each mark its number, place, name, comment
+ *   audiofile write FILE BITS CHANNELS FRAMES [PLACE NAME COMMENT]..   a WAVE file with marks 1, 2, ..
+ *   audiofile read FILE                                                the place, name and comment of each mark
  *
- * An empty NAME or COMMENT is not set. */
+ * A sound of 4 BITS is IMA. An empty NAME or COMMENT is not set. */
 #include <audiofile.h>
 #include <stdint.h>
 #include <stdio.h>
