@@ -2,8 +2,8 @@
 
 Each is added under the number 7, within a limit of 1,000,000 frames.
 """
-from data.others import REPORTED, WRITTEN
-from second import side as second_side
+from data.others import REPORTED, TITLED, WRITTEN
+from second import reader as second_reader, side as second_side
 
 NUMBER, LIMIT, ROOM = 7, 1000000, 65536
 
@@ -19,7 +19,14 @@ ONTO = [
     (WRITTEN / 'pcm16-mono.wav', REPORTED / 'ffmpeg-pcm16-mono.wav', 19),
     (REPORTED / 'sndfile-pcm16-mono-cues.wav', REPORTED / 'ffmpeg-pcm16-mono.wav', 19),
     (WRITTEN / 'ima-mono-short-block-songs.wav', REPORTED / 'sox-pcm16-mono.wav', 19),
+    # A side with titles; songs with titles, and one whose titles are wrong.
+    (TITLED / 'written-pcm16-mono-songs.wav', REPORTED / 'ffmpeg-pcm16-mono.wav', (701, 4)),
+    (TITLED / 'written-pcm16-mono-songs.wav', TITLED / 'audio-wav-pcm16-mono-ltxt-put.wav', (600, 4)),
+    (WRITTEN / 'pcm16-stereo-songs.wav', TITLED / 'gstreamer-pcm16-stereo-written.wav', (900, 4)),
+    (TITLED / 'written-pcm16-mono-songs.wav', TITLED / 'audiofile-pcm16-stereo-even-text-refused.wav', 21),
 ]
+# Songs that are at fault, by what is refused.
+OF_SONG = 9, 21
 
 
 def onto():
@@ -30,6 +37,8 @@ def onto():
         if kind == 'bytes':
             held = second_side.songs(made)
             answer = sum(listed.length for listed in held), len(held)
+            if second_reader.titles(made) != second_reader.titles(side.read_bytes()):
+                raise ValueError(f'{song.name} onto {side.name}: the titles are not those of the side')
         if answer != said:
             raise ValueError(f'{song.name} onto {side.name}: by hand it is {said}, the second way to add says {answer}')
         yield f'{song.name} onto {side.name}', side.read_bytes(), song.read_bytes()

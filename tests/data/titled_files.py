@@ -37,10 +37,10 @@ REFUSED = {
 # ---- the files as `write` must write them
 
 def songs(*lengths):
-    """The cues and the playlist of a side with songs of these lengths, numbered from 6 on."""
+    """The cues and the playlist of a side with songs of these lengths, numbered from 4 on."""
     places = [sum(lengths[:turn]) for turn in range(len(lengths))]
-    return [(6 + turn, place, place) for turn, place in enumerate(places)], \
-        [(6 + turn, length, 1) for turn, length in enumerate(lengths)]
+    return [(4 + turn, place, place) for turn, place in enumerate(places)], \
+        [(4 + turn, length, 1) for turn, length in enumerate(lengths)]
 
 
 def titled(made, *titles):
@@ -163,24 +163,31 @@ def reported(path):
             for kind, name, text in exiftool(sections(report_of(path))['ExifTool'])]
 
 
+def refusal_of(file):
+    """The number by which the second reader refuses a file; None where it is accepted."""
+    try:
+        second_reader.read_all(file)
+    except second_reader.Refused as refusal:
+        return refusal.args[0]
+    return None
+
+
 def check():
-    """Stops where a file is not what the second writer makes, where the second reader finds other titles in it than a
-    program reports, or where it does not refuse it by the right number."""
+    """Stops where a file is not what the second writer makes, where the second reader does not refuse it by the right
+    number, or where it finds other titles in it than a program reports."""
     own = {name: parts for name, *parts in all_files()}
     for path in paths(TITLED):
         file = path.read_bytes()
-        if path.name in own:
+        if path.name.startswith('written'):
             second_writer.check(*own[path.name])
-        if path.name.startswith('written') and file != second_writer.write(*own[path.name], 65536):
-            raise ValueError(f'{path.name} is not what the second writer makes')
-        try:
-            meant = dict(facts(file))
-        except second_reader.Refused as refusal:
-            if refusal.args != (REFUSED.get(path.name),):
-                raise ValueError(f'{path.name}: the second reader refuses it by {refusal}') from refusal
-            continue
-        if meant != dict(said(report_of(path))):
-            raise ValueError(f'{path.name}: it must be {meant}, the programs report {dict(said(report_of(path)))}')
+            if file != second_writer.write(*own[path.name], 65536):
+                raise ValueError(f'{path.name} is not what the second writer makes')
+        if refusal_of(file) != REFUSED.get(path.name):
+            raise ValueError(f'{path.name}: the second reader answers {refusal_of(file)}')
+        if path.name not in REFUSED:
+            meant, told = dict(facts(file)), dict(said(report_of(path)))
+            if meant != told:
+                raise ValueError(f'{path.name}: it must be {meant}, the programs report {told}')
 
 
 if __name__ == '__main__':

@@ -3,7 +3,7 @@ from host.places import place_in, record_of, refusal_of, with_junk
 from host.run import HOST, KNOWN, MEANINGS, OF_SOUND, adds, does, left_out, picked, refusal_in, tells, without_ways
 from host.walk import walked
 from data.others import HEARD, other_files
-from data.songs import onto
+from data.songs import OF_SONG, onto
 from trying import EMPTY, SONG, empty_for, expect, holding, printed, put, run
 from second import command as second_command, reader as second_reader
 from second.command import answer
@@ -40,7 +40,7 @@ def on_kept_sides():
     for label, side, song in onto():
         lines, _ = answer(second_command.add, side, song, 7, 1000000)
         for out in ('new.wav', 'side.wav'):
-            adds(label, side, song, 7, 1000000, 'song.wav' if lines == ['refused 9'] else 'side.wav', out=out)
+            adds(label, side, song, 7, 1000000, 'song.wav' if refusal_in(lines) in OF_SONG else 'side.wav', out=out)
     for heard in sorted(HEARD.glob('*.heard')):
         made = answer(second_command.decode, heard.with_suffix('.wav').read_bytes())[1]
         expect(f'whether {heard.name} is decoded', second_reader.read(made)[5] == heard.read_bytes(), True)
