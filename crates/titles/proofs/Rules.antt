@@ -8,7 +8,7 @@ use native.Mathlib.Omega.{arith}
 use lib.Dec.{ltb, leb, eqb}
 use lib.ListN.{length, take, drop, getD, set, replicate, drop-of-length-le, length-replicate, length-append}
 use lib.Seq.{drop-cons, set-at, append-snoc, take-at, length-take-le, getD-take}
-use borrow.Author.Tests.{lt-ltb, le-ltb, lt-leb, le-leb, eq-eqb, ne-eqb, not-true, not-false}
+use borrow.Author.Tests.{lt-ltb, le-ltb, lt-leb, le-leb, leb-true, eq-eqb, ne-eqb, not-true, not-false}
 use Rattle.lists.specs.Among.{indexIn, has, distinct}
 use Rattle.lists.specs.Every.{every}
 use Rattle.lists.proofs.Laws.{Holding, hold-begins, hold-ends, hold-fails, hold-next, Seeking}
@@ -40,11 +40,13 @@ module _ (names s : List ℕ) (t : Title) where
   rule-unkind h = simp (le-ltb (t .kind) 2 h)
 
   module _ (h : t .kind < 2) {text : List ℕ} (m : text ≡ entryIn s t .text) where
-    pub rule-long : 256 < length text → false ≡ entryRule names e
+    pub rule-long : {k : ℕ} → k < length text → leb 256 k ≡ true → false ≡ entryRule names e
     unfolding entryRule
-    rule-long g = let k : 256 < length (e .text) = omega (arith, ap length m) in simp (lt-leb (length (e .text)) 256 k, and-false)
+    rule-long {k} g b =
+        let l : 256 < length (e .text) = omega (arith, ap length m, leb-true 256 k b) in
+        simp (lt-leb (length (e .text)) 256 l, and-false)
 
-    module _ (g : length text ≤ 256) {b : Bool} (d : b ≡ closed text) where
+    module _ {b : Bool} (d : b ≡ closed text) where
       of-text : {x : Bool} → b ≡ x → closed (e .text) ≡ x
       of-text k = ap closed (sym m) ∙ sym d ∙ k
 
@@ -52,9 +54,9 @@ module _ (names s : List ℕ) (t : Title) where
       unfolding entryRule
       rule-open k = simp (of-text (not-true b k), and-false)
 
-      pub rule-named : {n : ℕ} → not b ≡ false → n ≡ indexIn (t .name .0) names → ltb n (length names) ≡ entryRule names e
+      pub rule-named : {n : ℕ} → length text ≤ 256 → not b ≡ false → n ≡ indexIn (t .name .0) names → ltb n (length names) ≡ entryRule names e
       unfolding entryRule has
-      rule-named k x =
+      rule-named g k x =
           let l : length (e .text) ≤ 256 = omega (arith, ap length m) in
           simp (lt-ltb (t .kind) 2 h, le-leb (length (e .text)) 256 l, of-text (not-false b k), x)
 

@@ -78,11 +78,12 @@ module _ {list : List Title} {n i at : ℕ} {made : List Title} (w : Turned list
       ∙ ap (λ (l : List Title). all ++ l) (drop-replicate n 128 noTitle (w .few))
 
   module _ (h : i < n) where
-    pub step-fits : Fits w32 (getD list i noTitle .length .0 + 1)
-    step-fits = record { fits = omega (arith, w .short i h) }
+    module _ (k : ℕ) (b : leb k 256 ≡ true) where
+      pub step-fits : Fits w32 (getD list i noTitle .length .0 + k)
+      step-fits = record { fits = omega (arith, leb-true k 256 b, w .short i h) }
 
-    pub place-fits : Fits w32 (at + (getD list i noTitle .length .0 + 1))
-    place-fits = record { fits = omega (arith, w .small, w .few, w .short i h) }
+      pub place-fits : Fits w32 (at + (getD list i noTitle .length .0 + k))
+      place-fits = record { fits = omega (arith, leb-true k 256 b, w .small, w .few, w .short i h) }
 
     pub turn-next : {x : Title} → x ≡ movedTo at (getD list i noTitle)
         → Turned list n (i + 1) (at + (getD list i noTitle .length .0 + 1)) (set made i x)

@@ -52,9 +52,9 @@ module _ (kind size : ℕ) where
   size-any h = simp (le-ltb kind 2 h)
 
   module _ (h : kind < 2) where
-    pub size-small : size < 5 → false ≡ sizeFits kind size
+    pub size-small : {k : ℕ} → size < k → leb k 5 ≡ true → false ≡ sizeFits kind size
     unfolding sizeFits
-    size-small g = simp (lt-ltb kind 2 h, lt-leb 5 size g)
+    size-small {k} g b = let l : size < 5 = omega (arith, leb-true k 5 b) in simp (lt-ltb kind 2 h, lt-leb 5 size l)
 
     pub size-most : 5 ≤ size → leb size 260 ≡ sizeFits kind size
     unfolding sizeFits
@@ -377,9 +377,9 @@ module _ {lost : Bool} {l : List ℕ} {at n : ℕ} {titles : List Title} (w : Fi
         one-found : (t : ℕ) → entriesBy (suc t) (drop at l) ≡ frontEntry rest ∷ entriesBy t (drop (at + c .next) l)
         one-found t = entries-next t ∙ simp (lt-ltb (c .kind) 2 o)
 
-        pub find-many : 128 ≤ n → false ≡ listForm lost l
+        pub find-many : {k : ℕ} → k ≤ n → leb 128 k ≡ true → false ≡ listForm lost l
         unfolding listForm
-        find-many q = by (w .turns) (w .enough) (w .same)
+        find-many {k} q b = by (w .turns) (w .enough) (w .same)
           where
             by : (t : ℕ) → length l ≤ at + t → map (entryIn l) (w .before) ++ entriesBy t (drop at l) ≡ entriesIn l
                 → false ≡ (tiles lost l && leb (length (entriesIn l)) 128)
@@ -387,7 +387,16 @@ module _ {lost : Bool} {l : List ℕ} {at n : ℕ} {titles : List Title} (w : Fi
             by (suc t) i m =
                 let c = length-append (map (entryIn l) (w .before)) (entriesBy (suc t) (drop at l)) in
                 let d : 128 < length (entriesIn l) =
-                omega (arith, c, ap length m, ap length (one-found t), length-map (w .before) (entryIn l), w .many) in
+                omega (
+                  arith,
+                  leb-true 128 k b,
+                  c,
+                  ap length m,
+                  ap length (one-found t),
+                  length-map (w .before) (entryIn l),
+                  w .many,
+                )
+                in
                 simp (lt-leb (length (entriesIn l)) 128 d, and-false)
 
         size-told : c .size ≡ sizeAt rest 0
