@@ -151,7 +151,8 @@ fn shut(refusal: Refusal) -> Opened
 fn has_list(places: Directory) -> bool
     ensures answer { λ r. ⌜ r ≡ cond (places .second) true (isThere (places .titles)) ⌝ }
 {
-    if places.second {
+    let twice = places.second;
+    if twice {
         return true;
     }
     let spot = places.titles;

@@ -18,6 +18,7 @@ use Rattle.units.specs.Checks.{decided, andThen, numberBy}
 use Rattle.units.proofs.Checks.{number-row}
 use Rattle.riff.specs.declared.Walked.{Walked}
 use Rattle.riff.proofs.Walking.{whole-limit, too-long}
+use Rattle.riff.specs.Laying.{given, piecesOf}
 use Rattle.riff.proofs.Laying.{length-laid}
 use Rattle.tables.specs.Cues.{namesIn}
 use Rattle.titles.specs.Titles.{Entry, entriesOf}
@@ -36,7 +37,7 @@ use Rattle.reader.proofs.Again.{content-fits, content-kept-read}
 use Rattle.writer.specs.declared.Written.the-variants.{Bytes}
 use Rattle.writer.specs.declared.Written.the-variants as written
 use Rattle.writer.specs.File.{sizeOf, partsOf, fileOf, rightTitles, writeChecks, settled, writtenBy, writingBy, writing, writtenNumber}
-use Rattle.writer.specs.Demands.{Back, Again, fileAgain, Same, SameNumber, WriteNumbered}
+use Rattle.writer.specs.Demands.{Back, Again, fileAgain, Same, SameNumber, WriteNumbered, Untitled}
 use Rattle.writer.proofs.Settling.{Settled, settled-then, writing-by, told-long, settled-says}
 pub use Rattle.writer.proofs.Settling.{bytes-say}
 use Rattle.writer.proofs.Back.{ruled-back, titles-back, content-back, entries-back}
@@ -190,3 +191,8 @@ pub numbered : WriteNumbered
 unfolding WriteNumbered writingBy writeChecks recordChecks numberBy
 numbered m b w room =
     answer-row (settled (rightTitles m b) m b w room) (sizeOf (fileOf m b w)) ∙ number-row (writeChecks (rightTitles m b) m b w room)
+
+-- ---- without titles the list is not written
+pub untitled : Untitled
+unfolding Untitled fileOf partsOf piecesOf given
+untitled m b w e = simp e

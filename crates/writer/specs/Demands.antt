@@ -2,7 +2,7 @@
 use Prim.Native.Nat.{ℕ, _+_, _%_, _≤_, _<_}
 use mathlib.Core.Path.{_≡_}
 use mathlib.Core.Bool.{true, false, not}
-use mathlib.Core.List.{List}
+use mathlib.Core.List.{List, [], _∷_}
 use lib.Dec.{T}
 use lib.ListN.{length}
 use lib.Pow.{areBytes}
@@ -13,7 +13,9 @@ use Rattle.units.specs.declared.Refusal.the-variants.{LengthOutOfRange, FormatW
 use Rattle.units.specs.declared.Verdict.the-variants as verdict
 use Rattle.formats.specs.Format.{formatRule}
 use Rattle.formats.specs.Frames.{needsFact}
-use Rattle.formats.specs.Bytes.{saidFormat}
+use Rattle.formats.specs.Bytes.{formatBytes, saidFormat}
+use Rattle.codes.specs.declared.Code.the-variants as code
+use Rattle.riff.specs.Laying.{piece, given, fileBytes}
 use Rattle.titles.specs.Titles.{entriesOf}
 use Rattle.titles.specs.Writing.{Sayable}
 use Rattle.rules.specs.declared.Record.{Record}
@@ -21,7 +23,7 @@ use Rattle.rules.specs.Written.{recordKept, RecordFits}
 use Rattle.reader.specs.Content.{reading, soundIn, titlesIn, textsIn}
 use Rattle.writer.specs.declared.Written.the-variants.{Bytes, Refused}
 use Rattle.writer.specs.Promise.{writeNumber}
-use Rattle.writer.specs.File.{sizeOf, fileOf, writing, writtenNumber}
+use Rattle.writer.specs.File.{sizeOf, factChunk, cuesChunk, playsChunk, fileOf, writing, writtenNumber}
 
 -- ---- a written file, n bytes long, reads back to the same record, zero past the counts, to the sound handed over, byte for byte, and
 -- to the same titles with their texts
@@ -78,3 +80,14 @@ SameNumber =
 -- ---- the number of an answer, in the order of checks and the numbers of document 01
 unfoldable pub WriteNumbered : Type 0
 WriteNumbered = (m : Record) (b w : List ℕ) (room : ℕ) → writtenNumber (writing m b w room) ≡ writeNumber m b w room
+
+-- ---- a record without titles is written to the same bytes as before there were titles: the other chunks, one after the other, whatever
+-- is lent for texts
+unfoldable pub Untitled : Type 0
+Untitled =
+    (m : Record) (b w : List ℕ) → m .titles .count ≡ 0
+    → fileOf m b w
+    ≡ fileBytes
+    (piece code.Format (formatBytes (m .format))
+    ∷ given code.Fact (factChunk (m .format) (m .frames))
+    (given code.Cue (cuesChunk (m .cues)) (given code.Playlist (playsChunk (m .playlist)) (piece code.Data w ∷ []))))
