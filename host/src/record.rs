@@ -180,12 +180,16 @@ impl Record {
         self.titles.iter().filter(move |title| title.cue == cue)
     }
 
-    /// Gives a cue a label or a note. One that it has stays in its place, and a new one goes behind the last title.
+    /// Gives a cue a label or a note. One that it has stays in its place. A new label goes before the first note, since
+    /// ffmpeg and libsndfile show the labels only up to there; a new note goes last.
     pub fn set_title(&mut self, kind: TitleKind, cue: Donation, text: &[u8]) {
-        match self.titles.iter_mut().find(|title| (title.kind, title.cue) == (kind, cue)) {
-            Some(title) => title.text = text.to_vec(),
-            None => self.titles.push(Title { kind, cue, text: text.to_vec() }),
+        if let Some(title) = self.titles.iter_mut().find(|title| (title.kind, title.cue) == (kind, cue)) {
+            title.text = text.to_vec();
+            return;
         }
+        let first_note = self.titles.iter().position(|title| title.kind == TitleKind::Note);
+        let at = first_note.filter(|_| kind == TitleKind::Label).unwrap_or(self.titles.len());
+        self.titles.insert(at, Title { kind, cue, text: text.to_vec() });
     }
 
     /// Takes a cue both its titles.
@@ -253,7 +257,7 @@ mod tests {
     }
 
     #[test]
-    fn titles_keep_their_order() {
+    fn titles_keep_their_order_and_labels_come_before_notes() {
         let mut record = Record::default();
         record.set_title(TitleKind::Note, Donation(8), b"one");
         record.set_title(TitleKind::Label, Donation(7), b"two");
@@ -261,8 +265,8 @@ mod tests {
         record.set_title(TitleKind::Note, Donation(8), b"");
         let [one, two, three] =
             [title(TitleKind::Note, 8, b""), title(TitleKind::Label, 7, b"two"), title(TitleKind::Label, 8, b"three")];
-        assert_eq!(record.titles, [one.clone(), two.clone(), three.clone()]);
-        assert!(record.titles_of(Donation(8)).eq([&one, &three]));
+        assert_eq!(record.titles, [two.clone(), three.clone(), one.clone()]);
+        assert!(record.titles_of(Donation(8)).eq([&three, &one]));
         record.remove_titles(Donation(8));
         assert_eq!(record.titles, [two]);
         record.remove_titles(Donation(9));

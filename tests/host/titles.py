@@ -31,7 +31,7 @@ def with_titles(file, titles):
 
 def changed(titles, number, texts):
     """Titles after the label and the note of a cue are set to these texts, or are removed where there is none. What is
-    changed stays where it is, and what is new comes last."""
+    changed stays where it is, a new label comes before the first note, and a new note comes last."""
     if texts == [None, None]:
         return [title for title in titles if title[1] != number]
     for kind, text in enumerate(texts):
@@ -40,7 +40,9 @@ def changed(titles, number, texts):
             place = found.index((kind, number))
             titles = [*titles[:place], (kind, number, text), *titles[place + 1:]]
         elif text is not None:
-            titles = [*titles, (kind, number, text)]
+            kinds = [title[0] for title in titles]
+            place = kinds.index(NOTE) if kind == LABEL and NOTE in kinds else len(titles)
+            titles = [*titles[:place], (kind, number, text), *titles[place:]]
     return titles
 
 
