@@ -232,7 +232,7 @@ def step_by_step():
                       ['title', 'side.wav', 'Two', '--number=102'], ['title', 'side.wav', 'First', '--number=101'],
                       ['decode', 'side.wav', 'heard.wav'], ['check', '--sound', 'side.wav', 'heard.wav']):
             expect(f'{words}', run([*HOST, *words], folder)[::2], (0, ''))
-        titles = [(LABEL, 101, b'First\0'), (NOTE, 101, b'The first\0'), (LABEL, 102, b'Two\0')]
+        titles = [(LABEL, 101, b'First\0'), (LABEL, 102, b'Two\0'), (NOTE, 101, b'The first\0')]
         for name in ('side.wav', 'heard.wav'):
             expect(f'the titles of {name}', second_reader.titles((folder / name).read_bytes()), titles)
         expect('what is left of it', parts(folder), [])
