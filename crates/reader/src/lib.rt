@@ -118,6 +118,8 @@ fn opened_by(answer: Reading, places: Directory) -> Opened
     ensures titles { λ r. ⌜ r .titles ≡ spotBy titlesFrom (answer .verdict) (Whole places) ⌝ }
 {
     let verdict = answer.verdict;
+    let sound_at = places.sound;
+    let titles_at = places.titles;
     let Verdict::Accepted = verdict else {
         return Opened {
             answer: answer,
@@ -125,12 +127,10 @@ fn opened_by(answer: Reading, places: Directory) -> Opened
             titles: Spot::Missing,
         };
     };
-    let sound = places.sound;
-    let titles = places.titles;
     Opened {
         answer: answer,
-        sound: sound,
-        titles: titles,
+        sound: sound_at,
+        titles: titles_at,
     }
 }
 
