@@ -22,7 +22,7 @@ use Rattle.tables.specs.Plays.{noPlay}
 use Rattle.tables.specs.Bytes.{zeroPast, cuesKept, playsKept, CuesFit, PlaysFit}
 use Rattle.tables.proofs.Entries.{all-zero}
 use Rattle.titles.specs.Titles.{firstEntries, eachRule, namesBy, entriesRule, tableOf}
-use Rattle.titles.specs.Writing.{titlesRight, inRow, titlesKept, TitlesFit}
+use Rattle.titles.specs.Writing.{titlesRight, textsInRow, titlesKept, TitlesFit}
 use Rattle.rules.specs.Rules.{Writable}
 use Rattle.rules.specs.Written.{recordKept, RecordFits}
 use Rattle.rules.proofs.Again.{none-fit}
@@ -70,7 +70,7 @@ module _ (c rate a : ℕ) (frames : Frames) where
 
   -- titles that there are none of need no texts
   pub titles-right : rightTitles (approvalRecord c rate a frames) [] ≡ true
-  unfolding approvalRecord titlesRight inRow entriesRule eachRule every namesBy distinct firstEntries
+  unfolding approvalRecord titlesRight textsInRow entriesRule eachRule every namesBy distinct firstEntries
   titles-right = refl
 
   -- a record that keeps the rules fits its fields

@@ -34,7 +34,7 @@ use Rattle.titles.specs.declared.Titles.{Titles}
 use Rattle.titles.specs.declared.ListRead.{ListRead}
 use Rattle.titles.specs.Titles.{Entry, firstEntries, entriesOf, eachRule, namesBy, entriesRule, textsOf, textsEnd, noTitles}
 use Rattle.titles.specs.Lists.{entriesIn, listForm, listValid, titlesOf, listRead}
-use Rattle.titles.specs.Writing.{inRow, titlesRight}
+use Rattle.titles.specs.Writing.{textsInRow, titlesRight}
 use Rattle.titles.proofs.Round.{none-in, none-texts, none-titles, none-valid, valid-form, valid-rule, valid-count, valid-ends, valid-there, valid-whole, valid-right, titles-many, texts-bytes as list-texts-bytes, texts-most as list-texts-most}
 use Rattle.rules.specs.declared.Record.{Record}
 use Rattle.rules.specs.declared.Reading.{Reading}
@@ -311,7 +311,7 @@ read-rule s =
     (λ d w v. valid-rule (padLost (d .titles)) (titlesPart s d) (namesIn (recordAt s d .cues)) (titles-valid s d (formed s d v)))
 
 pub read-right-for : (s cues : List ℕ) → entriesRule cues (titlesIn s) ≡ true → titlesRight cues (textsIn s) (reading s .made .titles) ≡ true
-unfolding titlesIn titlesRight inRow firstEntries
+unfolding titlesIn titlesRight textsInRow firstEntries
 read-right-for s cues =
     by-file s (λ r a t. entriesRule cues (entriesIn (partOf s t [])) ≡ true → titlesRight cues (textsOf (entriesIn (partOf s t []))) (r .made .titles) ≡ true)
     (λ r e. sym (ap (entriesRule cues) none-in) ∙ e)

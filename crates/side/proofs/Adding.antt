@@ -47,7 +47,7 @@ use Rattle.writer.specs.declared.Written.the-variants.{Refused}
 use Rattle.writer.specs.File.{sizeOf, factChunk, cuesChunk, playsChunk, titlesChunk, partsOf, fileOf, fileChecks, rightTitles, writeChecks, writtenBy, writingBy, writing, writtenVerdict}
 use Rattle.writer.proofs.Settling.{format-refused}
 use Rattle.side.specs.Side.{isSide}
-use Rattle.side.specs.Adding.{addChecks, addVerdict, withSong, Carried, newRecord, judged, newSound, newFile, addedBy, adding, emptySide}
+use Rattle.side.specs.Adding.{addChecks, addVerdict, withSong, WithList, newRecord, addJudged, newSound, newFile, addedBy, adding, emptySide}
 use Rattle.side.specs.Demands.{Sent}
 use Rattle.side.proofs.Songs.{side-says}
 use Rattle.side.proofs.Answers.{verdict-says, place-says, taking}
@@ -62,7 +62,7 @@ module _ {g m : Record} (e : g ≡ m) (x : Written) (w : List ℕ) where
   made-held d f = f ∙ ap (λ (r : Record). holding (writtenVerdict x) (fileOf r [] w) d) e
 
 -- ---- a record whose titles are those of a list: where they stand in it, it is written as with the texts by themselves
-module _ {m : Record} {l : List ℕ} {lost : Bool} (k : Carried m l lost) {f : Found} (w : FoundIn lost l f) {g : Record}
+module _ {m : Record} {l : List ℕ} {lost : Bool} (k : WithList m l lost) {f : Found} (w : FoundIn lost l f) {g : Record}
     (e : g ≡ withTitles m (f .titles)) where
   abbrev texts : List ℕ
   texts = textsOf (entriesIn l)
@@ -154,7 +154,7 @@ pub ruleset reading-added = (side-stands, few-cues, frames-fit, grow-refused, gr
 pub files-grown : (s t : List ℕ) (number : Donation) (limit : Frames) {side song g : Reading} {w v : List ℕ}
     → side ≡ reading s → w ≡ soundIn s → song ≡ reading t → v ≡ soundIn t
     → g ≡ readingBy (addVerdict side w song v number limit) (withSong (side .made) number (song .made .frames))
-    → g ≡ readingBy (judged s t number limit) (newRecord s t number)
+    → g ≡ readingBy (addJudged s t number limit) (newRecord s t number)
 files-grown s t number limit a b c d e =
     e ∙ (λ i. readingBy (addVerdict (a i) (b i) (c i) (d i) number limit) (withSong (a i .made) number (c i .made .frames)))
 
@@ -168,7 +168,7 @@ module _ (s : List ℕ) {spot : Spot} (h : spot ≡ titlesSpot s) {l : List ℕ}
   texts-so = ap (λ (x : List ℕ). textsOf (entriesIn x)) list-so
 
   pub list-carried : {m : Record} {lost : Bool} → m .titles ≡ reading s .made .titles → rightTitles m (textsIn s) ≡ true → lost ≡ padLost spot
-      → Carried m l lost
+      → WithList m l lost
   unfolding titlesIn TitlesTold
   list-carried {m} a r j =
       record {
@@ -192,9 +192,9 @@ module _ (s : List ℕ) {spot : Spot} (h : spot ≡ titlesSpot s) {l : List ℕ}
     files-held r old q = q ∙ (λ k. holding (writtenVerdict r) (fileOf m (texts-so k) (b k ++ d k)) old)
 
 -- the answer
-module _ (s t : List ℕ) (number : Donation) (limit : Frames) {g : Reading} (e : g ≡ readingBy (judged s t number limit) (newRecord s t number)) where
-  told : judged s t number limit ≡ g .verdict
-  told = by (judged s t number limit) (newRecord s t number) ∙ sym (ap (λ (x : Reading). x .verdict) e)
+module _ (s t : List ℕ) (number : Donation) (limit : Frames) {g : Reading} (e : g ≡ readingBy (addJudged s t number limit) (newRecord s t number)) where
+  told : addJudged s t number limit ≡ g .verdict
+  told = by (addJudged s t number limit) (newRecord s t number) ∙ sym (ap (λ (x : Reading). x .verdict) e)
     where
       by : (u : Verdict) (m : Record) → u ≡ readingBy u m .verdict
       by verdict.Accepted m = refl

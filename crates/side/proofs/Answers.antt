@@ -62,8 +62,8 @@ module _ (s : List ℕ) (x : Sent) where
   abbrev pub checks : List Check
   checks = addChecks (reading s) (soundIn s) (reading (x .file)) (soundIn (x .file)) (x .number) (x .limit)
 
-  abbrev judged : Verdict
-  judged = addVerdict (reading s) (soundIn s) (reading (x .file)) (soundIn (x .file)) (x .number) (x .limit)
+  abbrev addJudged : Verdict
+  addJudged = addVerdict (reading s) (soundIn s) (reading (x .file)) (soundIn (x .file)) (x .number) (x .limit)
 
   pub taking : reading (x .file) .verdict ≡ verdict.Accepted → AllMet checks → Taking s x
   unfolding AllMet
@@ -80,12 +80,12 @@ module _ (s : List ℕ) (x : Sent) where
         within = q .1;
       }
 
-  judged-says : judged ≡ verdict.Accepted → Taking s x
+  judged-says : addJudged ≡ verdict.Accepted → Taking s x
   judged-says e =
       let k = verdict-says (reading s) (soundIn s) (reading (x .file)) (soundIn (x .file)) (x .number) (x .limit) e in
       taking (k .0) (k .1)
 
-  judged-taken : Taking s x → judged ≡ verdict.Accepted
+  judged-taken : Taking s x → addJudged ≡ verdict.Accepted
   unfolding addVerdict decided hasPlace
   judged-taken k =
       let a = le-leb 1 (fileFrames (x .file)) (k .some) in
@@ -99,7 +99,7 @@ module _ (s : List ℕ) (x : Sent) where
 
   pub added-says : (n : BytePlace) → answerTo s x ≡ Bytes n → Taking s x × (writes ≡ Bytes n)
   unfolding adding
-  added-says n e = let p = by judged writes e in (judged-says (p .0), p .1)
+  added-says n e = let p = by addJudged writes e in (judged-says (p .0), p .1)
     where
       by : (v : Verdict) (w : Written) → addedBy v w ≡ Bytes n → (v ≡ verdict.Accepted) × (w ≡ Bytes n)
       by verdict.Accepted (Bytes k) h = (refl, cc)

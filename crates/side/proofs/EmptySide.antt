@@ -26,7 +26,7 @@ use Rattle.tables.specs.Plays.{playsIn, playsOf, allPlayable, playsRule}
 use Rattle.tables.specs.Bytes.{zeroPast, cuesKept, playsKept}
 use Rattle.tables.proofs.Again.{cues-fit, plays-fit}
 use Rattle.titles.specs.Titles.{firstEntries, eachRule, namesBy, entriesRule, tableOf}
-use Rattle.titles.specs.Writing.{inRow, titlesRight, titlesKept}
+use Rattle.titles.specs.Writing.{textsInRow, titlesRight, titlesKept}
 use Rattle.rules.specs.declared.Record.{Record}
 use Rattle.rules.proofs.Again.{none-fit}
 use Rattle.rules.specs.Rules.{Writable}
@@ -100,7 +100,7 @@ module _ (channels rate : ℕ) where
       }
 
   empty-right : rightTitles m [] ≡ true
-  unfolding titlesRight inRow firstEntries entriesRule eachRule every namesBy distinct emptySide
+  unfolding titlesRight textsInRow firstEntries entriesRule eachRule every namesBy distinct emptySide
   empty-right = refl
 
   empty-long : length (fileOf m [] []) ≡ 44

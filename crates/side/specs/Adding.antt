@@ -75,7 +75,7 @@ withSong m number frames =
     }
 
 -- a record whose titles are those of a list, and may be written with its texts
-pub record Carried (m : Record) (l : List ℕ) (lost : Bool) : Type 0 where
+pub record WithList (m : Record) (l : List ℕ) (lost : Bool) : Type 0 where
   pub short : length l ≤ fileLimit
   pub form : listForm lost l ≡ true
   pub titles : m .titles ≡ titlesOf l
@@ -96,8 +96,8 @@ newFile s t number = fileOf (newRecord s t number) (textsIn s) (newSound s t)
 -- ---- the answer, with room for so many bytes
 
 -- the verdict on two files
-abbrev pub judged : List ℕ → List ℕ → Donation → Frames → Verdict
-judged s t number limit = addVerdict (reading s) (soundIn s) (reading t) (soundIn t) number limit
+abbrev pub addJudged : List ℕ → List ℕ → Donation → Frames → Verdict
+addJudged s t number limit = addVerdict (reading s) (soundIn s) (reading t) (soundIn t) number limit
 
 -- the verdict's refusal, or else writing's answer
 abbrev pub addedBy : Verdict → Written → Written
@@ -107,7 +107,7 @@ addedBy (verdict.Refused r) x = Refused r
 -- the file is written by the rules of writing: 1 if it would be above the limit; 14
 unfoldable pub adding : List ℕ → List ℕ → Donation → Frames → ℕ → Written
 adding s t number limit room =
-    addedBy (judged s t number limit)
+    addedBy (addJudged s t number limit)
     (writing (newRecord s t number) (textsIn s) (newSound s t) room)
 
 -- ---- an empty side: 16-bit PCM, no frame, no cue and no entry

@@ -32,8 +32,8 @@ ghost use Rattle.titles.specs.Titles.{textsOf};
 ghost use Rattle.titles.specs.Lists.{entriesIn};
 ghost use Rattle.rules.specs.Rules.{readingBy};
 ghost use Rattle.side.specs.Side.{sixteenBit, tiled, isSide, sideRead, bytesOfFrames, framesAt, soundAt};
-ghost use Rattle.side.specs.Adding.{suits, hasPlace, onceMore, placeChecks, addVerdict, withSong, Carried};
-ghost use Rattle.side.specs.Adding.{judged, newRecord, newSound, newFile, adding, emptySide};
+ghost use Rattle.side.specs.Adding.{suits, hasPlace, onceMore, placeChecks, addVerdict, withSong, WithList};
+ghost use Rattle.side.specs.Adding.{addJudged, newRecord, newSound, newFile, adding, emptySide};
 ghost use Rattle.reader.specs.Content.{reading, soundSpot, titlesSpot, textsIn};
 
 // ---- a side
@@ -322,7 +322,7 @@ fn join(
     added: &[u8],
     out: &mut [u8],
 ) -> Written
-    requires { ⌜ Carried made (now list) lost ⌝ }
+    requires { ⌜ WithList made (now list) lost ⌝ }
     ensures answer { λ r. ⌜ r ≡ writing made (textsOf (entriesIn (now (list .entry))))
         (now (sound .entry) ++ now (added .entry)) (length (now (out .entry))) ⌝ }
     ensures buffer { λ r. ⌜ now (out .exit) ≡ holding (writtenVerdict r) (fileOf made (textsOf (entriesIn (now (list .entry))))
@@ -344,7 +344,7 @@ fn grow_files(
 ) -> Reading
     requires { ⌜ (opened .answer ≡ reading (now side)) × (opened .sound ≡ soundSpot (now side)) ⌝ }
     requires { ⌜ (sent .answer ≡ reading (now song)) × (sent .sound ≡ soundSpot (now song)) ⌝ }
-    ensures answer { λ r. ⌜ r ≡ readingBy (judged (now (side .entry)) (now (song .entry)) number limit)
+    ensures answer { λ r. ⌜ r ≡ readingBy (addJudged (now (side .entry)) (now (song .entry)) number limit)
         (newRecord (now (side .entry)) (now (song .entry)) number) ⌝ }
 {
     let spot = opened.sound;

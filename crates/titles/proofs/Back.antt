@@ -26,7 +26,7 @@ use Rattle.riff.proofs.Padding.{next-place}
 use Rattle.riff.proofs.Found.{behind, number-laid, head-parts, data-there, size-there, rest-there, fits-there}
 use Rattle.titles.specs.Titles.{Entry, noEntry}
 use Rattle.titles.specs.Lists.{frontKind, frontEntry, frontRest, withEntry, entriesBy, entriesIn, padFits, sizeFits, frontFits, tilesBy, tiles, listForm}
-use Rattle.titles.specs.Writing.{codeOf, pieceOf, listBytes}
+use Rattle.titles.specs.Writing.{titleCode, pieceOf, listBytes}
 use Rattle.titles.proofs.Walking.{entries-one, entries-none, tiles-one, tiles-none, next-within}
 
 -- the numbers of an entry fit the fields that they are written to, the size of its chunk among them
@@ -44,7 +44,7 @@ module _ (e : Entry) (f : EntryFits e) (rest : List ℕ) where
   abbrev l : List ℕ
   l = pieceBytes (pieceOf e) ++ rest
 
-  laid : drop 0 (pieceBytes (pieceOf e) ++ rest) ≡ pieceBytes (piece (codeOf (e .kind)) (bytesOf 4 (e .name) ++ e .text)) ++ rest
+  laid : drop 0 (pieceBytes (pieceOf e) ++ rest) ≡ pieceBytes (piece (titleCode (e .kind)) (bytesOf 4 (e .name) ++ e .text)) ++ rest
   unfolding pieceOf
   laid = refl
 
@@ -52,20 +52,20 @@ module _ (e : Entry) (f : EntryFits e) (rest : List ℕ) where
   bytes-long = length-append (bytesOf 4 (e .name)) (e .text) ∙ omega (arith, length-bytes 4 (e .name))
 
   said-size : sizeAt l 0 ≡ length (e .text) + 4
-  said-size = size-there l 0 (codeOf (e .kind)) bytes rest laid (omega (arith, bytes-long, f .long)) ∙ bytes-long
+  said-size = size-there l 0 (titleCode (e .kind)) bytes rest laid (omega (arith, bytes-long, f .long)) ∙ bytes-long
 
   said-kind : frontKind l ≡ e .kind
   unfolding frontKind codeBytes sameBytes
-  said-kind = by (e .kind) (f .kind) (laid-code l 0 (codeOf (e .kind)) _ (head-parts l 0 (codeOf (e .kind)) bytes rest laid))
+  said-kind = by (e .kind) (f .kind) (laid-code l 0 (titleCode (e .kind)) _ (head-parts l 0 (titleCode (e .kind)) bytes rest laid))
     where
-      by : (k : ℕ) → k < 2 → ((d : Code) → isAt l 0 d ≡ sameBytes (codeBytes (codeOf k)) (codeBytes d))
+      by : (k : ℕ) → k < 2 → ((d : Code) → isAt l 0 d ≡ sameBytes (codeBytes (titleCode k)) (codeBytes d))
           → cond (isAt l 0 code.Label) 0 (cond (isAt l 0 code.Note) 1 2) ≡ k
       by zero g h = simp h
       by (suc zero) g h = simp h
       by (suc (suc k)) g h = absurd (omega arith)
 
   said-data : drop 8 l ≡ bytesOf 4 (e .name) ++ (e .text ++ (padBytes (length bytes) ++ rest))
-  said-data = data-there l 0 (codeOf (e .kind)) bytes rest laid ∙ append-assoc (bytesOf 4 (e .name)) (e .text) _
+  said-data = data-there l 0 (titleCode (e .kind)) bytes rest laid ∙ append-assoc (bytesOf 4 (e .name)) (e .text) _
 
   said-name : numberAt 4 l 8 ≡ e .name
   said-name = number-laid l 8 (e .name) _ (f .name) said-data
@@ -83,7 +83,7 @@ module _ (e : Entry) (f : EntryFits e) (rest : List ℕ) where
   long-enough : 8 + sizeAt l 0 + sizeAt l 0 % 2 ≤ length l
   long-enough =
       let n : sizeAt l 0 ≡ length bytes = said-size ∙ sym bytes-long in
-      subst (λ (k : ℕ). 8 + k + k % 2 ≤ length l) (sym n) (fits-there l 0 (codeOf (e .kind)) bytes rest laid (omega arith))
+      subst (λ (k : ℕ). 8 + k + k % 2 ≤ length l) (sym n) (fits-there l 0 (titleCode (e .kind)) bytes rest laid (omega arith))
 
   said-whole : passes l 0 ≡ false
   said-whole = simp (le-ltb (length l) 8 (omega (arith, long-enough)), le-ltb (length l) (8 + sizeAt l 0) (omega (arith, long-enough)))
@@ -95,7 +95,7 @@ module _ (e : Entry) (f : EntryFits e) (rest : List ℕ) where
       let m : sizeAt l 0 ≡ length bytes = said-size ∙ sym bytes-long in
       ap (λ (k : ℕ). drop k l) n
       ∙ ap (λ (k : ℕ). drop (8 + k + k % 2) l) m
-      ∙ rest-there l 0 (codeOf (e .kind)) bytes rest laid
+      ∙ rest-there l 0 (titleCode (e .kind)) bytes rest laid
 
   padded : (lost : Bool) → padFits lost (padAt l 0) ≡ true
   unfolding padAfter

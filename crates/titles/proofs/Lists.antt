@@ -19,9 +19,9 @@ use Rattle.titles.specs.declared.Title.{Title}
 use Rattle.titles.specs.declared.Titles.{Titles}
 use Rattle.titles.specs.declared.Found.{Found}
 use Rattle.titles.specs.declared.ListRead.{ListRead}
-use Rattle.titles.specs.Titles.{Entry, noEntry, entryIn, firstEntries, entriesOf, closed, entryRule, eachRule, namesBy, entriesRule, textsOf, placedFrom, noTitle, noTitles, tableOf, tableFor, inTurn}
+use Rattle.titles.specs.Titles.{Entry, noEntry, entryIn, firstEntries, entriesOf, closed, entryRule, eachRule, namesBy, entriesRule, textsOf, placedFrom, noTitle, noTitles, tableOf, tableFor, movedInTurn}
 use Rattle.titles.specs.Lists.{entriesIn, tiles, listForm, listValid, titlesOf, listRead, Stands, FoundIn}
-use Rattle.titles.specs.Writing.{inRow, titlesRight, Short}
+use Rattle.titles.specs.Writing.{textsInRow, titlesRight, Short}
 use Rattle.titles.proofs.Entries.{entries-long, entry-at}
 use Rattle.titles.proofs.Texts.{turn-placed, placed-long}
 
@@ -97,13 +97,13 @@ module _ (lost : Bool) (l : List ℕ) (c : Cues) where
         pub valid-short : (i : ℕ) → i < f .titles .count → getD (f .titles .list) i noTitle .length .0 ≤ 255
         valid-short i o = omega (arith, stands .long i o, kept i o .short)
 
-        pub valid-made : {places : List Title} → places ≡ inTurn 0 (take (f .titles .count) (f .titles .list)) ++ replicate (128 - f .titles .count) noTitle
+        pub valid-made : {places : List Title} → places ≡ movedInTurn 0 (take (f .titles .count) (f .titles .list)) ++ replicate (128 - f .titles .count) noTitle
             → record { valid = true; titles = record { count = f .titles .count; list = places } } ≡ listRead lost l (namesIn c)
         unfolding listRead listValid tableOf firstEntries
         valid-made e =
             let ts : List Title = take (f .titles .count) (f .titles .list) in
             let n : length ts ≡ f .titles .count = length-take-le (f .titles .count) (f .titles .list) (omega (arith, stands .room, valid-few)) in
-            let p : inTurn 0 ts ≡ placedFrom 0 (entriesIn l) =
+            let p : movedInTurn 0 ts ≡ placedFrom 0 (entriesIn l) =
             turn-placed 0 l ts
             (λ i o. subst (λ (t : Title). length (entryIn l t .text) ≡ t .length .0 + 1) (sym (getD-take (f .titles .count) (f .titles .list) i noTitle (omega (arith, n)))) (stands .long i (omega (arith, n))))
             ∙ ap (placedFrom 0) (stands .entries) in
@@ -139,7 +139,7 @@ module _ (s : List ℕ) (t : Titles) (c : Cues) where
   unfolding titlesRight
   right-many h = simp (lt-leb (t .count) 128 h)
 
-  module _ (h : t .count ≤ 128) {b : Bool} (e : b ≡ inRow (length s) 0 (take (t .count) (t .list))) where
+  module _ (h : t .count ≤ 128) {b : Bool} (e : b ≡ textsInRow (length s) 0 (take (t .count) (t .list))) where
     pub right-elsewhere : not b ≡ true → false ≡ titlesRight (namesIn c) s t
     unfolding titlesRight
     right-elsewhere f = simp (sym e ∙ not-true b f, and-false)

@@ -22,14 +22,14 @@ use Rattle.riff.proofs.Putting.{data-room, pad-fits, padded}
 use Rattle.tables.specs.Bytes.{entryBytes}
 use Rattle.titles.specs.declared.Title.{Title}
 use Rattle.titles.specs.Titles.{Entry, entryIn, firstEntries, noTitle}
-use Rattle.titles.specs.Writing.{codeOf, pieceOf, chunkOf, listBytes, Short}
+use Rattle.titles.specs.Writing.{titleCode, pieceOf, chunkOf, listBytes, Short}
 use Rattle.titles.proofs.Pouring.{bytes-next, bytes-over}
 
 -- ---- the code of a kind
-pub code-label : (k : ℕ) → k ≡ 0 → code.Label ≡ codeOf k
+pub code-label : (k : ℕ) → k ≡ 0 → code.Label ≡ titleCode k
 code-label k e = simp (eq-eqb k 0 e)
 
-pub code-note : (k : ℕ) → (k ≡ 0 → ⊥) → code.Note ≡ codeOf k
+pub code-note : (k : ℕ) → (k ≡ 0 → ⊥) → code.Note ≡ titleCode k
 code-note k e = simp (ne-eqb k 0 e)
 
 pub ruleset coding = (code-label, code-note)
@@ -50,7 +50,7 @@ module _ (s : List ℕ) (t : Title) {text : List ℕ} (m : text ≡ entryIn s t 
 
   chunk-long : length (chunkOf (entryIn s t)) ≡ 8 + ((4 + length text) + (4 + length text) % 2)
   unfolding pieceOf
-  chunk-long = length-piece (piece (codeOf (t .kind)) (dataOf (entryIn s t))) ∙ ap (λ (n : ℕ). 8 + (n + n % 2)) data-long
+  chunk-long = length-piece (piece (titleCode (t .kind)) (dataOf (entryIn s t))) ∙ ap (λ (n : ℕ). 8 + (n + n % 2)) data-long
 
   -- how many bytes it takes
   pub chunk-sized : 8 + (4 + length text) + (4 + length text) % 2 ≡ length (chunkOf (entryIn s t))
@@ -80,28 +80,28 @@ module _ (s : List ℕ) (t : Title) {text : List ℕ} (m : text ≡ entryIn s t 
     pub chunk-end : Fits w64 (at + 8 + (4 + length text) + (4 + length text) % 2)
     chunk-end = record { fits = omega (arith, chunk-long) }
 
-  module _ {d e : List ℕ} {at : ℕ} {k : Code} (h : at + length (chunkOf (entryIn s t)) ≤ length d) (c : k ≡ codeOf (t .kind))
+  module _ {d e : List ℕ} {at : ℕ} {k : Code} (h : at + length (chunkOf (entryIn s t)) ≤ length d) (c : k ≡ titleCode (t .kind))
       (p : Put d at (headBytes k (4 + length text)) e) where
-    opened : at + length (pieceBytes (piece (codeOf (t .kind)) (dataOf (entryIn s t)))) ≤ length d
+    opened : at + length (pieceBytes (piece (titleCode (t .kind)) (dataOf (entryIn s t)))) ≤ length d
     unfolding pieceOf
     opened = h
 
-    headed : Put d at (headBytes (codeOf (t .kind)) (4 + length text)) e
+    headed : Put d at (headBytes (titleCode (t .kind)) (4 + length text)) e
     headed = subst (λ (j : Code). Put d at (headBytes j (4 + length text)) e) c p
 
     pub named-room : at + 8 + (4 + length text) ≤ length e
-    named-room = omega (arith, data-room (codeOf (t .kind)) (dataOf (entryIn s t)) (4 + length text) opened headed, data-long)
+    named-room = omega (arith, data-room (titleCode (t .kind)) (dataOf (entryIn s t)) (4 + length text) opened headed, data-long)
 
     module _ {g : List ℕ} (q : Put e (at + 8) (bytesOf 4 (t .name .0) ++ text) g) where
       filled : Put e (at + 8) (dataOf (entryIn s t)) g
       filled = subst (λ (l : List ℕ). Put e (at + 8) (bytesOf 4 (t .name .0) ++ l) g) m q
 
       pub pad-room : at + 8 + (4 + length text) + length (padBytes (4 + length text)) ≤ length g
-      pad-room = pad-fits (codeOf (t .kind)) (dataOf (entryIn s t)) opened headed filled (sym data-long)
+      pad-room = pad-fits (titleCode (t .kind)) (dataOf (entryIn s t)) opened headed filled (sym data-long)
 
       pub title-put : {z : List ℕ} → Put g (at + 8 + (4 + length text)) (padBytes (4 + length text)) z → Put d at (chunkOf (entryIn s t)) z
       unfolding pieceOf
-      title-put r = padded (codeOf (t .kind)) (dataOf (entryIn s t)) opened headed filled (sym data-long) r
+      title-put r = padded (titleCode (t .kind)) (dataOf (entryIn s t)) opened headed filled (sym data-long) r
 
 pub ruleset chunk-sizing = (chunk-sized, chunk-most, chunk-even)
 

@@ -29,7 +29,7 @@ use Rattle.titles.specs.declared.Title.{Title}
 use Rattle.titles.specs.declared.Titles.{Titles}
 use Rattle.titles.specs.Titles.{Entry, noEntry, entryIn, firstEntries, entriesOf, closed, entryRule, eachRule, namesBy, entriesRule, textOf, textsOf, placedFrom, noTitle, noTitles, tableOf, tableFor, textsEnd}
 use Rattle.titles.specs.Lists.{frontKind, frontEntry, frontRest, withEntry, entriesBy, entriesIn, frontFits, tilesBy, tiles, listForm, listValid, titlesOf, Stands}
-use Rattle.titles.specs.Writing.{codeOf, pieceOf, listBytes, inRow, titlesRight, titlesKept, TitlesFit, Short, listPart, Sayable}
+use Rattle.titles.specs.Writing.{titleCode, pieceOf, listBytes, textsInRow, titlesRight, titlesKept, TitlesFit, Short, listPart, Sayable}
 use Rattle.titles.proofs.Entries.{entries-long, entry-at}
 use Rattle.titles.proofs.Walking.{title-size, fits-all, within, entries-none}
 use Rattle.titles.proofs.Lists.{entry-kept, Kept, rule-kept}
@@ -41,12 +41,12 @@ module _ (names s : List ℕ) (t : Titles) (fit : TitlesFit t) (e : titlesRight 
   abbrev es : List Entry
   es = entriesOf s t
 
-  right-both : ((leb (t .count) 128 && inRow (length s) 0 (take (t .count) (t .list))) ≡ true) × (entriesRule names (entriesOf s t) ≡ true)
+  right-both : ((leb (t .count) 128 && textsInRow (length s) 0 (take (t .count) (t .list))) ≡ true) × (entriesRule names (entriesOf s t) ≡ true)
   unfolding titlesRight
-  right-both = and-both (leb (t .count) 128 && inRow (length s) 0 (take (t .count) (t .list))) (entriesRule names (entriesOf s t)) e
+  right-both = and-both (leb (t .count) 128 && textsInRow (length s) 0 (take (t .count) (t .list))) (entriesRule names (entriesOf s t)) e
 
-  right-first : (leb (t .count) 128 ≡ true) × (inRow (length s) 0 (take (t .count) (t .list)) ≡ true)
-  right-first = and-both (leb (t .count) 128) (inRow (length s) 0 (take (t .count) (t .list))) (right-both .0)
+  right-first : (leb (t .count) 128 ≡ true) × (textsInRow (length s) 0 (take (t .count) (t .list)) ≡ true)
+  right-first = and-both (leb (t .count) 128) (textsInRow (length s) 0 (take (t .count) (t .list))) (right-both .0)
 
   few : t .count ≤ 128
   few = leb-true (t .count) 128 (right-first .0)
@@ -90,7 +90,7 @@ module _ (names s : List ℕ) (t : Titles) (fit : TitlesFit t) (e : titlesRight 
 -- ---- titles that stand in a list whose titles keep the rule are short
 pub rule-of : (names s : List ℕ) (t : Titles) → titlesRight names s t ≡ true → entriesRule names (entriesOf s t) ≡ true
 unfolding titlesRight
-rule-of names s t e = and-both (leb (t .count) 128 && inRow (length s) 0 (take (t .count) (t .list))) (entriesRule names (entriesOf s t)) e .1
+rule-of names s t e = and-both (leb (t .count) 128 && textsInRow (length s) 0 (take (t .count) (t .list))) (entriesRule names (entriesOf s t)) e .1
 
 -- ---- no list is one without titles
 pub none-in : entriesIn [] ≡ []
@@ -199,8 +199,8 @@ module _ (lost : Bool) (l names : List ℕ) (e : listValid lost l names ≡ true
   valid-right cues r =
       let ts : List Title = placedFrom 0 (entriesIn l) in
       let n : length ts ≤ 128 = omega (arith, placed-long 0 (entriesIn l), valid-few) in
-      let row : inRow (length (textsOf (entriesIn l))) 0 (take (length ts) (ts ++ replicate (128 - length ts) noTitle)) ≡ true =
-      ap (inRow (length (textsOf (entriesIn l))) 0) (take-at ts (replicate (128 - length ts) noTitle) (length ts) refl)
+      let row : textsInRow (length (textsOf (entriesIn l))) 0 (take (length ts) (ts ++ replicate (128 - length ts) noTitle)) ≡ true =
+      ap (textsInRow (length (textsOf (entriesIn l))) 0) (take-at ts (replicate (128 - length ts) noTitle) (length ts) refl)
       ∙ placed-row (length (textsOf (entriesIn l))) 0 (entriesIn l) valid-some (omega arith) in
       let rule = ap (entriesRule cues) valid-whole ∙ r in
       simp (le-leb (length ts) 128 n, row, rule)
@@ -350,7 +350,7 @@ titles-bytes : (s : List ℕ) → T (areBytes s) → (ts : List Title) → T (ar
 unfolding bodyBytes pieceOf
 titles-bytes s b [] = tt
 titles-bytes s b (t ∷ ts) =
-    body-bytes (piece (codeOf (t .kind)) (bytesOf 4 (t .name .0) ++ entryIn s t .text)) (map pieceOf (map (entryIn s) ts))
+    body-bytes (piece (titleCode (t .kind)) (bytesOf 4 (t .name .0) ++ entryIn s t .text)) (map pieceOf (map (entryIn s) ts))
     (both-bytes (bytesOf 4 (t .name .0)) (entryIn s t .text) (number-bytes 4 (t .name .0))
     (taken-bytes (t .length .0 + 1) (drop (t .start .0) s) (dropped-bytes (t .start .0) s b)))
     (titles-bytes s b ts)

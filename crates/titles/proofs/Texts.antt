@@ -16,8 +16,8 @@ use Rattle.lists.proofs.Laws.{and-both}
 use Rattle.tables.specs.Bytes.{entryBytes}
 use Rattle.titles.specs.declared.Title.{Title}
 use Rattle.titles.specs.declared.Titles.{Titles}
-use Rattle.titles.specs.Titles.{Entry, noEntry, entryIn, firstEntries, entriesOf, textOf, textsOf, placedFrom, noTitle, tableOf, tableFor, movedTo, inTurn, endOf, textsEnd}
-use Rattle.titles.specs.Writing.{inRow}
+use Rattle.titles.specs.Titles.{Entry, noEntry, entryIn, firstEntries, entriesOf, textOf, textsOf, placedFrom, noTitle, tableOf, tableFor, movedTo, movedInTurn, endOf, textsEnd}
+use Rattle.titles.specs.Writing.{textsInRow}
 use Rattle.titles.proofs.Pouring.{Poured, pour-begins, pour-ends}
 
 -- ---- put from the start of a buffer
@@ -47,8 +47,8 @@ module _ (list : List Title) (n i : ℕ) (long : length list ≡ 128) (few : n �
   first-over h = drop-of-length-le (take n list) {i = i} (omega (arith, first-long))
 
 -- ---- titles in turn: i are placed in the room for them, and the text of the next is to start at a place
-turn-long : (at : ℕ) (ts : List Title) → length (inTurn at ts) ≡ length ts
-unfolding inTurn
+turn-long : (at : ℕ) (ts : List Title) → length (movedInTurn at ts) ≡ length ts
+unfolding movedInTurn
 turn-long at [] = refl
 turn-long at (t ∷ ts) = ap suc (turn-long (at + (t .length .0 + 1)) ts)
 
@@ -65,15 +65,15 @@ pub record Turned (list : List Title) (n i at : ℕ) (made : List Title) : Type 
   pub upto : i ≤ n
   pub short : (k : ℕ) → k < n → getD list k noTitle .length .0 ≤ 255
   pub small : at ≤ 256 * i
-  pub filled : Filled (inTurn 0 (take n list)) (inTurn at (drop i (take n list))) i made (replicate 128 noTitle)
+  pub filled : Filled (movedInTurn 0 (take n list)) (movedInTurn at (drop i (take n list))) i made (replicate 128 noTitle)
 
 module _ {list : List Title} {n i at : ℕ} {made : List Title} (w : Turned list n i at made) where
-  pub turn-ends : n ≤ i → made ≡ inTurn 0 (take n list) ++ replicate (128 - n) noTitle
-  unfolding inTurn front
+  pub turn-ends : n ≤ i → made ≡ movedInTurn 0 (take n list) ++ replicate (128 - n) noTitle
+  unfolding movedInTurn front
   turn-ends h =
-      let all : List Title = inTurn 0 (take n list) in
+      let all : List Title = movedInTurn 0 (take n list) in
       let e = first-over list n i (w .long) (w .few) h in
-      filled-all (subst (λ (l : List Title). Filled all (inTurn at l) i made (replicate 128 noTitle)) e (w .filled))
+      filled-all (subst (λ (l : List Title). Filled all (movedInTurn at l) i made (replicate 128 noTitle)) e (w .filled))
       ∙ ap (λ (k : ℕ). all ++ drop k (replicate 128 noTitle)) (turn-long 0 (take n list) ∙ first-long list n i (w .long) (w .few))
       ∙ ap (λ (l : List Title). all ++ l) (drop-replicate n 128 noTitle (w .few))
 
@@ -87,10 +87,10 @@ module _ {list : List Title} {n i at : ℕ} {made : List Title} (w : Turned list
 
     pub turn-next : {x : Title} → x ≡ movedTo at (getD list i noTitle)
         → Turned list n (i + 1) (at + (getD list i noTitle .length .0 + 1)) (set made i x)
-    unfolding inTurn
+    unfolding movedInTurn
     turn-next {x} e =
         let next : ℕ = at + (getD list i noTitle .length .0 + 1) in
-        let g = ap (inTurn at) (first-next list n i (w .long) (w .few) h) in
+        let g = ap (movedInTurn at) (first-next list n i (w .long) (w .few) h) in
         record {
           long = w .long;
           few = w .few;
@@ -99,7 +99,7 @@ module _ {list : List Title} {n i at : ℕ} {made : List Title} (w : Turned list
           small = omega (arith, w .small, w .short i h);
           filled =
               filled-store (w .filled)
-              (g ∙ ap (λ (t : Title). t ∷ inTurn next (drop (i + 1) (take n list))) (sym e))
+              (g ∙ ap (λ (t : Title). t ∷ movedInTurn next (drop (i + 1) (take n list))) (sym e))
               (omega (arith, w .few, w .filled .long, length-replicate 128 noTitle))
               refl;
         }
@@ -112,26 +112,26 @@ pub record Rowed (room : ℕ) (list : List Title) (n i at : ℕ) : Type 0 where
   pub few : n ≤ 128
   pub upto : i ≤ n
   pub small : at ≤ 4294967296 * i
-  pub same : inRow room at (drop i (take n list)) ≡ inRow room 0 (take n list)
+  pub same : textsInRow room at (drop i (take n list)) ≡ textsInRow room 0 (take n list)
 
 module _ {room : ℕ} {list : List Title} {n i at : ℕ} (w : Rowed room list n i at) where
-  pub row-ends : n ≤ i → true ≡ inRow room 0 (take n list)
-  unfolding inRow
-  row-ends h = sym (ap (inRow room at) (first-over list n i (w .long) (w .few) h)) ∙ w .same
+  pub row-ends : n ≤ i → true ≡ textsInRow room 0 (take n list)
+  unfolding textsInRow
+  row-ends h = sym (ap (textsInRow room at) (first-over list n i (w .long) (w .few) h)) ∙ w .same
 
   module _ (h : i < n) where
     abbrev next : ℕ
     next = at + (getD list i noTitle .length .0 + 1)
 
-    left : (eqb (getD list i noTitle .start .0) at && leb next room && inRow room next (drop (i + 1) (take n list))) ≡ inRow room 0 (take n list)
-    unfolding inRow
-    left = sym (ap (inRow room at) (first-next list n i (w .long) (w .few) h)) ∙ w .same
+    left : (eqb (getD list i noTitle .start .0) at && leb next room && textsInRow room next (drop (i + 1) (take n list))) ≡ textsInRow room 0 (take n list)
+    unfolding textsInRow
+    left = sym (ap (textsInRow room at) (first-next list n i (w .long) (w .few) h)) ∙ w .same
 
-    pub row-elsewhere : (getD list i noTitle .start .0 ≡ at → ⊥) → false ≡ inRow room 0 (take n list)
+    pub row-elsewhere : (getD list i noTitle .start .0 ≡ at → ⊥) → false ≡ textsInRow room 0 (take n list)
     row-elsewhere e = simp (← left, ne-eqb (getD list i noTitle .start .0) at e)
 
     module _ (e : getD list i noTitle .start .0 ≡ at) where
-      pub row-past : room < at + (getD list i noTitle .length .0 + 1) → false ≡ inRow room 0 (take n list)
+      pub row-past : room < at + (getD list i noTitle .length .0 + 1) → false ≡ textsInRow room 0 (take n list)
       row-past l = simp (← left, eq-eqb (getD list i noTitle .start .0) at e, lt-leb next room l)
 
       pub row-next : at + (getD list i noTitle .length .0 + 1) ≤ room → Fits w32 (getD list i noTitle .length .0)
@@ -166,21 +166,21 @@ titleFor at e = record { kind = e .kind; name = record { 0 = e .name }; start = 
 
 pub turn-placed : (at : ℕ) (s : List ℕ) (ts : List Title)
     → ((i : ℕ) → i < length ts → length (entryIn s (getD ts i noTitle) .text) ≡ getD ts i noTitle .length .0 + 1)
-    → inTurn at ts ≡ placedFrom at (map (entryIn s) ts)
-unfolding inTurn placedFrom
+    → movedInTurn at ts ≡ placedFrom at (map (entryIn s) ts)
+unfolding movedInTurn placedFrom
 turn-placed at s [] h = refl
 turn-placed at s (t ∷ ts) h =
     let n : ℕ = length (entryIn s t .text) in
     let e : n ≡ t .length .0 + 1 = h 0 (omega arith) in
     let f : t .length .0 ≡ n - 1 = omega arith in
     (λ i.
-    record { kind = t .kind; name = t .name; start = record { 0 = at }; length = record { 0 = f i } } ∷ inTurn (at + sym e i) ts)
+    record { kind = t .kind; name = t .name; start = record { 0 = at }; length = record { 0 = f i } } ∷ movedInTurn (at + sym e i) ts)
     ∙ ap (λ (l : List Title). titleFor at (entryIn s t) ∷ l) (turn-placed (at + n) s ts (λ i k. h (suc i) (omega arith)))
 
 -- ---- titles that are in a row: what the test says of the first
-module _ (room at : ℕ) (t : Title) (ts : List Title) (h : inRow room at (t ∷ ts) ≡ true) where
-  row-both : ((eqb (t .start .0) at && leb (at + (t .length .0 + 1)) room) ≡ true) × (inRow room (at + (t .length .0 + 1)) ts ≡ true)
-  unfolding inRow
+module _ (room at : ℕ) (t : Title) (ts : List Title) (h : textsInRow room at (t ∷ ts) ≡ true) where
+  row-both : ((eqb (t .start .0) at && leb (at + (t .length .0 + 1)) room) ≡ true) × (textsInRow room (at + (t .length .0 + 1)) ts ≡ true)
+  unfolding textsInRow
   row-both = and-both _ _ h
 
   row-first : (eqb (t .start .0) at ≡ true) × (leb (at + (t .length .0 + 1)) room ≡ true)
@@ -192,12 +192,12 @@ module _ (room at : ℕ) (t : Title) (ts : List Title) (h : inRow room at (t ∷
   row-room : at + (t .length .0 + 1) ≤ room
   row-room = leb-true (at + (t .length .0 + 1)) room (row-first .1)
 
-  row-rest : inRow room (at + (t .length .0 + 1)) ts ≡ true
+  row-rest : textsInRow room (at + (t .length .0 + 1)) ts ≡ true
   row-rest = row-both .1
 
 -- moved in turn, they stay
-row-turn : (room at : ℕ) (ts : List Title) → inRow room at ts ≡ true → inTurn at ts ≡ ts
-unfolding inTurn
+row-turn : (room at : ℕ) (ts : List Title) → textsInRow room at ts ≡ true → movedInTurn at ts ≡ ts
+unfolding movedInTurn
 row-turn room at [] h = refl
 row-turn room at (t ∷ ts) h =
     let e = row-start room at t ts h in
@@ -205,17 +205,17 @@ row-turn room at (t ∷ ts) h =
     λ i. record { kind = t .kind; name = t .name; start = record { 0 = sym e i }; length = t .length } ∷ r i
 
 -- their texts are in the buffer, so each is as long as it says
-pub row-long : (at : ℕ) (s : List ℕ) (ts : List Title) → inRow (length s) at ts ≡ true
+pub row-long : (at : ℕ) (s : List ℕ) (ts : List Title) → textsInRow (length s) at ts ≡ true
     → (i : ℕ) → i < length ts → length (entryIn s (getD ts i noTitle) .text) ≡ getD ts i noTitle .length .0 + 1
 row-long at s [] h i g = absurd (omega arith)
 row-long at s (t ∷ ts) h zero g =
     part-long s (t .start .0) (t .length .0 + 1) (omega (arith, row-start (length s) at t ts h, row-room (length s) at t ts h))
 row-long at s (t ∷ ts) h (suc i) g = row-long (at + (t .length .0 + 1)) s ts (row-rest (length s) at t ts h) i (omega arith)
 
-pub row-placed : (at : ℕ) (s : List ℕ) (ts : List Title) → inRow (length s) at ts ≡ true → placedFrom at (map (entryIn s) ts) ≡ ts
+pub row-placed : (at : ℕ) (s : List ℕ) (ts : List Title) → textsInRow (length s) at ts ≡ true → placedFrom at (map (entryIn s) ts) ≡ ts
 row-placed at s ts h = sym (turn-placed at s ts (row-long at s ts h)) ∙ row-turn (length s) at ts h
 
-pub row-texts : (at : ℕ) (s : List ℕ) (ts : List Title) → inRow (length s) at ts ≡ true
+pub row-texts : (at : ℕ) (s : List ℕ) (ts : List Title) → textsInRow (length s) at ts ≡ true
     → textsOf (map (entryIn s) ts) ≡ take (length (textsOf (map (entryIn s) ts))) (drop at s)
 unfolding textsOf entryBytes
 row-texts at s [] h = refl
@@ -245,8 +245,8 @@ placed-long at [] = refl
 placed-long at (e ∷ es) = ap suc (placed-long (at + length (e .text)) es)
 
 -- they stand in a row
-pub placed-row : (room at : ℕ) (es : List Entry) → NoneEmpty es → at + length (textsOf es) ≤ room → inRow room at (placedFrom at es) ≡ true
-unfolding inRow placedFrom
+pub placed-row : (room at : ℕ) (es : List Entry) → NoneEmpty es → at + length (textsOf es) ≤ room → textsInRow room at (placedFrom at es) ≡ true
+unfolding textsInRow placedFrom
 placed-row room at [] h r = refl
 placed-row room at (e ∷ es) h r =
     let k : length (e .text) - 1 + 1 ≡ length (e .text) = omega (arith, h 0 (omega arith)) in

@@ -94,9 +94,9 @@ tableFor es = tableOf (placedFrom 0 es)
 abbrev pub movedTo : ℕ → Title → Title
 movedTo at t = record { kind = t .kind; name = t .name; start = record { 0 = at }; length = t .length }
 
-unfoldable pub inTurn : ℕ → List Title → List Title
-inTurn at [] = []
-inTurn at (t ∷ ts) = movedTo at t ∷ inTurn (at + (t .length .0 + 1)) ts
+unfoldable pub movedInTurn : ℕ → List Title → List Title
+movedInTurn at [] = []
+movedInTurn at (t ∷ ts) = movedTo at t ∷ movedInTurn (at + (t .length .0 + 1)) ts
 
 -- where the last text of a table ends
 abbrev pub endOf : Title → ℕ

@@ -16,12 +16,12 @@ use Rattle.titles.specs.Titles.{Entry, entryIn, entriesOf, entriesRule, 
 
 -- ---- the bytes
 
-abbrev pub codeOf : ℕ → Code
-codeOf kind = cond (eqb kind 0) code.Label code.Note
+abbrev pub titleCode : ℕ → Code
+titleCode kind = cond (eqb kind 0) code.Label code.Note
 
 -- `labl` or `note`: the name of a cue, and the text
 unfoldable pub pieceOf : Entry → Piece
-pieceOf e = piece (codeOf (e .kind)) (bytesOf 4 (e .name) ++ e .text)
+pieceOf e = piece (titleCode (e .kind)) (bytesOf 4 (e .name) ++ e .text)
 
 abbrev pub chunkOf : Entry → List ℕ
 chunkOf e = pieceBytes (pieceOf e)
@@ -37,14 +37,14 @@ listPart s t = cond (leb 1 (t .count)) (listBytes (entriesOf s t)) []
 -- ---- titles that may be written: they are as reading gives them
 
 -- the first text stands at a place, each right after the last, and all within so many bytes
-unfoldable pub inRow : ℕ → ℕ → List Title → Bool
-inRow room at [] = true
-inRow room at (t ∷ ts) =
-    eqb (t .start .0) at && leb (at + (t .length .0 + 1)) room && inRow room (at + (t .length .0 + 1)) ts
+unfoldable pub textsInRow : ℕ → ℕ → List Title → Bool
+textsInRow room at [] = true
+textsInRow room at (t ∷ ts) =
+    eqb (t .start .0) at && leb (at + (t .length .0 + 1)) room && textsInRow room (at + (t .length .0 + 1)) ts
 
 -- at most 128; their texts in a row from the start of s; and the rule kept. Names are those of the cues
 unfoldable pub titlesRight : List ℕ → List ℕ → Titles → Bool
-titlesRight names s t = leb (t .count) 128 && inRow (length s) 0 (take (t .count) (t .list)) && entriesRule names (entriesOf s t)
+titlesRight names s t = leb (t .count) 128 && textsInRow (length s) 0 (take (t .count) (t .list)) && entriesRule names (entriesOf s t)
 
 -- what is read back of a table that is written: its room past the count zero
 unfoldable pub titlesKept : Titles → Titles
@@ -63,5 +63,5 @@ pub record Short (s : List ℕ) (list : List Title) (n : ℕ) : Type 0 where
 -- a list says all of titles that are at most 128, stand in a row from the start of s, and are labels or notes
 pub record Sayable (s : List ℕ) (t : Titles) : Type 0 where
   pub few : t .count ≤ 128
-  pub row : inRow (length s) 0 (take (t .count) (t .list)) ≡ true
+  pub row : textsInRow (length s) 0 (take (t .count) (t .list)) ≡ true
   pub kinds : (i : ℕ) → i < t .count → getD (t .list) i noTitle .kind < 2

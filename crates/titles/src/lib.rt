@@ -22,9 +22,9 @@ ghost use Rattle.riff.specs.Chunks.{sizeAt};
 ghost use Rattle.tables.specs.Bytes.{entryBytes};
 ghost use Rattle.tables.specs.Cues.{namesIn};
 ghost use Rattle.titles.specs.Titles.{entryIn, firstEntries, entriesOf, closed, entryRule, eachRule, namesBy, entriesRule};
-ghost use Rattle.titles.specs.Titles.{textsOf, textsEnd, movedTo, inTurn, noTitle, noTitles};
+ghost use Rattle.titles.specs.Titles.{textsOf, textsEnd, movedTo, movedInTurn, noTitle, noTitles};
 ghost use Rattle.titles.specs.Lists.{frontKind, padFits, sizeFits, noFront, frontOf, entriesIn, listForm, listRead, SaysAt, FoundIn};
-ghost use Rattle.titles.specs.Writing.{codeOf, chunkOf, listBytes, inRow, titlesRight, Short};
+ghost use Rattle.titles.specs.Writing.{titleCode, chunkOf, listBytes, textsInRow, titlesRight, Short};
 
 // The most titles: a label and a note for each of 64 cues.
 pub const MOST: u32 = 128;
@@ -372,7 +372,7 @@ fn moved_to(title: Title, at: u32) -> Title
 // The first n titles with their texts one after the other from the start of a buffer.
 fn in_turn(list: [Title; 128], n: usize) -> [Title; 128]
     requires { ⌜ (n ≤ 128) × ((i : ℕ) → i < n → getD list i noTitle .length .0 ≤ 255) ⌝ }
-    ensures answer { λ r. ⌜ r ≡ inTurn 0 (take n list) ++ replicate (128 - n) noTitle ⌝ }
+    ensures answer { λ r. ⌜ r ≡ movedInTurn 0 (take n list) ++ replicate (128 - n) noTitle ⌝ }
 {
     let mut placed = title_room();
     let mut at: u32 = 0;
@@ -468,7 +468,7 @@ pub fn put_texts(list: &[u8], lost: bool, out: &mut [u8])
 // Whether the texts of the first n titles stand in a row, from the start of a buffer with so much room.
 fn in_row(list: [Title; 128], n: usize, room: usize) -> bool
     requires { ⌜ n ≤ 128 ⌝ }
-    ensures answer { λ r. ⌜ r ≡ inRow room 0 (take n list) ⌝ }
+    ensures answer { λ r. ⌜ r ≡ textsInRow room 0 (take n list) ⌝ }
 {
     let mut at: usize = 0;
     let mut i = 0;
@@ -504,7 +504,7 @@ pub fn titles_right(source: &[u8], titles: Titles, cues: Cues) -> bool
 
 // The code of a kind.
 fn code_of(kind: u32) -> Code
-    ensures answer { λ r. ⌜ r ≡ codeOf kind ⌝ }
+    ensures answer { λ r. ⌜ r ≡ titleCode kind ⌝ }
 {
     if kind == LABEL {
         return Code::Label;

@@ -39,7 +39,7 @@ use Rattle.encode.specs.Answer as encodes
 use Rattle.words.specs.Words.{recordWords, fieldsFit, recordFrom}
 use Rattle.wave_c.specs.declared.Answer.{Answer}
 use Rattle.wave_c.specs.declared.CodedAnswer.{CodedAnswer}
-use Rattle.wave_c.specs.Interface.{refusedBy, done, answerBy, ofWritten, ofDecoded, ofEncoded, enough, readVerdict, roomFor, recordVerdict, wordsValid, wordsWriting}
+use Rattle.wave_c.specs.Interface.{refusedBy, done, answerBy, ofWritten, ofDecoded, ofEncoded, enough, readVerdict, roomFor, recordLent, wordsValid, wordsWriting}
 
 -- ---- answers as numbers
 module _ (r : Refusal) {k : ℕ} (e : k ≡ numberOf r) where
@@ -220,26 +220,26 @@ module _ (s : List ℕ) (words room : ℕ) {x : Reading} (e : x ≡ reading s) w
   lent = roomFor (length (textsIn s)) words room
 
   module _ {r : Refusal} (f : x .verdict ≡ verdict.Refused r) where
-    record-turned : recordVerdict s words room ≡ verdict.Refused r
-    unfolding recordVerdict
+    record-turned : recordLent s words room ≡ verdict.Refused r
+    unfolding recordLent
     record-turned = ap (λ (v : Verdict). andThen v lent) (ap (λ (y : Reading). y .verdict) (sym e) ∙ f)
 
-    pub record-refused : {k : ℕ} → k ≡ numberOf r → k ≡ verdictNumber (recordVerdict s words room)
+    pub record-refused : {k : ℕ} → k ≡ numberOf r → k ≡ verdictNumber (recordLent s words room)
     record-refused g = refused-number record-turned g
 
-    pub record-left : (ys d : List ℕ) → d ≡ holding (recordVerdict s words room) ys d
+    pub record-left : (ys d : List ℕ) → d ≡ holding (recordLent s words room) ys d
     record-left ys d = refused-kept record-turned ys d
 
   module _ (f : x .verdict ≡ verdict.Accepted) where
-    record-taken : lent ≡ recordVerdict s words room
-    unfolding recordVerdict
+    record-taken : lent ≡ recordLent s words room
+    unfolding recordLent
     record-taken = ap (λ (v : Verdict). andThen v lent) (sym f ∙ ap (λ (y : Reading). y .verdict) e)
 
-    pub record-number : {k : ℕ} → k ≡ verdictNumber (roomFor (length (textsIn s)) words room) → k ≡ verdictNumber (recordVerdict s words room)
+    pub record-number : {k : ℕ} → k ≡ verdictNumber (roomFor (length (textsIn s)) words room) → k ≡ verdictNumber (recordLent s words room)
     record-number g = g ∙ ap verdictNumber record-taken
 
     pub record-kept : (ys d : List ℕ) {z : List ℕ} → z ≡ holding (roomFor (length (textsIn s)) words room) ys d
-        → z ≡ holding (recordVerdict s words room) ys d
+        → z ≡ holding (recordLent s words room) ys d
     record-kept ys d g = g ∙ ap (λ (v : Verdict). holding v ys d) record-taken
 
 pub ruleset record-read = (record-refused, record-left, record-number, record-kept)

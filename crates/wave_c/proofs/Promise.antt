@@ -41,7 +41,7 @@ use Rattle.side.proofs.Rows as side-proofs
 use Rattle.words.specs.Words.{recordWords, recordFrom}
 use Rattle.wave_c.specs.declared.Answer.{Answer}
 use Rattle.wave_c.specs.declared.CodedAnswer.{CodedAnswer}
-use Rattle.wave_c.specs.Interface.{answerBy, ofWritten, ofDecoded, ofEncoded, enough, readVerdict, roomFor, recordVerdict, wordsValid, wordsWriting}
+use Rattle.wave_c.specs.Interface.{answerBy, ofWritten, ofDecoded, ofEncoded, enough, readVerdict, roomFor, recordLent, wordsValid, wordsWriting}
 use Rattle.wave_c.specs.Promise.{readNumber, CRead, CSound, CWrite, CDecode, CBlock, CEncode, CEmpty, CAdd, OneEach}
 
 -- ---- the number of an answer is that of the operation
@@ -78,15 +78,15 @@ abbrev refusalOf : Answer → ℕ
 refusalOf r = r .refusal
 
 record-row : (s : List ℕ) (words room : ℕ)
-    → verdictNumber (recordVerdict s words room)
+    → verdictNumber (recordLent s words room)
     ≡ numberOr (reading s .verdict) (cond (not (leb 906 words)) 14 (cond (not (leb (length (textsIn s)) room)) 14 0))
-unfolding recordVerdict roomFor numberBy
+unfolding recordLent roomFor numberBy
 record-row s words room =
     number-then (reading s .verdict) (roomFor (length (textsIn s)) words room) ∙ ap (numberOr (reading s .verdict)) (number-row _)
 
-pub c-read : (s d t : List ℕ) {r : ℕ} {e u : List ℕ} → r ≡ verdictNumber (recordVerdict s (length d) (length t))
-    → e ≡ holding (recordVerdict s (length d) (length t)) (recordWords (reading s .made)) d
-    → u ≡ holding (recordVerdict s (length d) (length t)) (textsIn s) t → CRead s d t r e u
+pub c-read : (s d t : List ℕ) {r : ℕ} {e u : List ℕ} → r ≡ verdictNumber (recordLent s (length d) (length t))
+    → e ≡ holding (recordLent s (length d) (length t)) (recordWords (reading s .made)) d
+    → u ≡ holding (recordLent s (length d) (length t)) (textsIn s) t → CRead s d t r e u
 c-read s d t f g h = record { answer = f; number = f ∙ record-row s (length d) (length t); words = g; texts = h }
 
 pub c-sound : (s d : List ℕ) {r : Answer} {e : List ℕ} → r ≡ answerBy (readVerdict 1 s (length d)) (length (soundIn s))

@@ -60,8 +60,8 @@ readVerdict n s room = andThen (reading s .verdict) (enough n room)
 unfoldable pub roomFor : ℕ → ℕ → ℕ → Verdict
 roomFor texts words room = decided (check (leb 906 words) OutputTooSmall ∷ check (leb texts room) OutputTooSmall ∷ [])
 
-unfoldable pub recordVerdict : List ℕ → ℕ → ℕ → Verdict
-recordVerdict s words room = andThen (reading s .verdict) (roomFor (length (textsIn s)) words room)
+unfoldable pub recordLent : List ℕ → ℕ → ℕ → Verdict
+recordLent s words room = andThen (reading s .verdict) (roomFor (length (textsIn s)) words room)
 
 -- ---- writing
 

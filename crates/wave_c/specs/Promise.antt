@@ -25,7 +25,7 @@ use Rattle.side.specs.Demands.{emptyNumber, addNumber}
 use Rattle.words.specs.Words.{recordWords, recordFrom}
 use Rattle.wave_c.specs.declared.Answer.{Answer}
 use Rattle.wave_c.specs.declared.CodedAnswer.{CodedAnswer}
-use Rattle.wave_c.specs.Interface.{answerBy, ofWritten, ofDecoded, ofEncoded, readVerdict, recordVerdict, wordsValid, wordsWriting}
+use Rattle.wave_c.specs.Interface.{answerBy, ofWritten, ofDecoded, ofEncoded, readVerdict, recordLent, wordsValid, wordsWriting}
 
 -- the reader's number, or else 14 where a lent buffer has not n elements
 abbrev pub readNumber : ℕ → List ℕ → ℕ → ℕ
@@ -34,10 +34,10 @@ readNumber n s room = numberOr (reading s .verdict) (cond (not (leb n room)) 14 
 -- `tronalhet_read`: of a file s, with lent words that held d and a lent buffer for texts that held t, the number r; the words then are
 -- e and the buffer holds u
 pub record CRead (s d t : List ℕ) (r : ℕ) (e u : List ℕ) : Type 0 where
-  pub answer : r ≡ verdictNumber (recordVerdict s (length d) (length t))
+  pub answer : r ≡ verdictNumber (recordLent s (length d) (length t))
   pub number : r ≡ numberOr (reading s .verdict) (cond (not (leb 906 (length d))) 14 (cond (not (leb (length (textsIn s)) (length t))) 14 0))
-  pub words : e ≡ holding (recordVerdict s (length d) (length t)) (recordWords (reading s .made)) d
-  pub texts : u ≡ holding (recordVerdict s (length d) (length t)) (textsIn s) t
+  pub words : e ≡ holding (recordLent s (length d) (length t)) (recordWords (reading s .made)) d
+  pub texts : u ≡ holding (recordLent s (length d) (length t)) (textsIn s) t
 
 -- `tronalhet_sound`: the same with the number of the sound's bytes, and where they start
 pub record CSound (s d : List ℕ) (r : Answer) (e : List ℕ) : Type 0 where

@@ -23,7 +23,7 @@ ghost use Rattle.decode.specs.Decoding.{decoding, blockDecoding, fileSound, fil
 ghost use Rattle.side.specs.Adding.{adding, newFile, emptySide};
 ghost use Rattle.words.specs.Words.{recordWords, recordFrom};
 ghost use Rattle.wave_c.specs.Interface.{refusedBy, done, ofWritten, ofDecoded, ofEncoded, answerBy, enough};
-ghost use Rattle.wave_c.specs.Interface.{readVerdict, roomFor, recordVerdict, wordsValid, wordsWriting};
+ghost use Rattle.wave_c.specs.Interface.{readVerdict, roomFor, recordLent, wordsValid, wordsWriting};
 
 // How many bytes or frames there are, or the number of the refusal.
 #[repr(C)]
@@ -141,12 +141,12 @@ fn put_opened(file: &[u8], opened: Opened, out: &mut [u32], texts: &mut [u8]) ->
 #[no_mangle]
 pub extern "C" fn tronalhet_read(file: &[u8], out: &mut [u32], texts: &mut [u8]) -> u32
     ensures answer { λ r. ⌜ r ≡ verdictNumber
-        (recordVerdict (now (file .entry)) (length (now (out .entry))) (length (now (texts .entry)))) ⌝ }
+        (recordLent (now (file .entry)) (length (now (out .entry))) (length (now (texts .entry)))) ⌝ }
     ensures words { λ r. ⌜ now (out .exit)
-        ≡ holding (recordVerdict (now (file .entry)) (length (now (out .entry))) (length (now (texts .entry))))
+        ≡ holding (recordLent (now (file .entry)) (length (now (out .entry))) (length (now (texts .entry))))
         (recordWords (reading (now (file .entry)) .made)) (now (out .entry)) ⌝ }
     ensures texts { λ r. ⌜ now (texts .exit)
-        ≡ holding (recordVerdict (now (file .entry)) (length (now (out .entry))) (length (now (texts .entry))))
+        ≡ holding (recordLent (now (file .entry)) (length (now (out .entry))) (length (now (texts .entry))))
         (textsIn (now (file .entry))) (now (texts .entry)) ⌝ }
 {
     let opened = reader::open(file);
