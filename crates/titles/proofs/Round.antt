@@ -33,7 +33,7 @@ use Rattle.titles.specs.Writing.{titleCode, pieceOf, listBytes, textsInR
 use Rattle.titles.proofs.Entries.{entries-long, entry-at}
 use Rattle.titles.proofs.Walking.{title-size, fits-all, within, entries-none}
 use Rattle.titles.proofs.Lists.{entry-kept, Kept, rule-kept}
-use Rattle.titles.proofs.Texts.{NoneEmpty, row-long, placed-long, placed-row, row-placed, ends-placed, texts-back}
+use Rattle.titles.proofs.Texts.{NoneEmpty, row-long, placed-long, placed-row, row-placed, row-texts, ends-placed, texts-back}
 use Rattle.titles.proofs.Back.{EntryFits, AllFit, AllShort, entries-back, list-written}
 
 -- ---- titles that may be written
@@ -80,6 +80,11 @@ module _ (names s : List ℕ) (t : Titles) (fit : TitlesFit t) (e : titlesRight 
   pub round-titles : titlesOf (listBytes es) ≡ titlesKept t
   unfolding titlesKept firstEntries
   round-titles = ap tableFor round-entries ∙ ap tableOf (row-placed 0 s (take (t .count) (t .list)) (right-first .1))
+
+  -- and the texts that are read are what was lent, from its start
+  pub round-texts : textsOf es ≡ take (length (textsOf es)) s
+  unfolding firstEntries
+  round-texts = row-texts 0 s (take (t .count) (t .list)) (right-first .1)
 
   pub round-valid : (lost : Bool) → listValid lost (listBytes es) names ≡ true
   unfolding listValid

@@ -41,7 +41,7 @@ use Rattle.rules.specs.Rules.{ChunkBytes, recordOf, withTitles, chunkChecks, ve
 use Rattle.rules.specs.Written.{writtenBytes, recordKept, RecordFits, FaultSaid}
 use Rattle.rules.proofs.Taken.{record-keeps}
 use Rattle.rules.proofs.Back.{verdict-back, record-back}
-use Rattle.reader.specs.Content.{Content, refused, holds, contentBy, zeros, formatPart, soundPart, factPart, cuePart, playlistPart, titlesPart, chunksAt, recordAt, titlesValid, chunksChecks, checksAt, verdictAt, contentIn, contentOf, readingOf, reading, spotBy, titlesFrom, titlesSpot, titlesIn}
+use Rattle.reader.specs.Content.{Content, refused, holds, contentBy, zeros, formatPart, soundPart, factPart, cuePart, playlistPart, titlesPart, chunksAt, recordAt, titlesValid, chunksChecks, checksAt, verdictAt, contentIn, contentOf, readingOf, reading, spotBy, titlesPlace, titlesSpot, titlesIn}
 use Rattle.writer.specs.File.{sizeOf, partsOf, fileOf, rightTitles}
 
 -- a table is left out exactly where its bytes are those that are read in its place
@@ -173,4 +173,4 @@ module _ (m : Record) (b w : List ℕ) (h : RecordFits m) (k : FaultSaid m (size
     unfolding titlesIn titlesSpot reading
     entries-back =
         let v : reading s .verdict ≡ Accepted = ap (λ (c : Content). readingOf c .verdict) content-back in
-        ap entriesIn ((λ i. partOf s (spotBy titlesFrom (v i) (laid .walked i)) []) ∙ titles-part) ∙ part-entries
+        ap entriesIn ((λ i. partOf s (spotBy titlesPlace (v i) (laid .walked i)) []) ∙ titles-part) ∙ part-entries

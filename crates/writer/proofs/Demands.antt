@@ -6,7 +6,7 @@ use mathlib.Core.List.{List, [], append-nil}
 use Prim.Native.Nat.{ℕ, _+_, _%_, _≤_, _<_}
 use native.Mathlib.Omega.{arith}
 use lib.Dec.{leb}
-use lib.ListN.{length}
+use lib.ListN.{length, take}
 use borrow.Author.Tests.{leb-true, leb-false, le-leb}
 use Rattle.units.specs.declared.BytePlace.{BytePlace}
 use Rattle.units.specs.declared.Refusal.{Refusal}
@@ -21,9 +21,9 @@ use Rattle.riff.proofs.Walking.{whole-limit, too-long}
 use Rattle.riff.specs.Laying.{given, piecesOf}
 use Rattle.riff.proofs.Laying.{length-laid}
 use Rattle.tables.specs.Cues.{namesIn}
-use Rattle.titles.specs.Titles.{Entry, entriesOf}
+use Rattle.titles.specs.Titles.{Entry, entriesOf, textsOf}
 use Rattle.titles.specs.Writing.{listBytes}
-use Rattle.titles.proofs.Round.{fault-said, no-entries, no-list, list-even}
+use Rattle.titles.proofs.Round.{round-texts, fault-said, no-entries, no-list, list-even}
 use Rattle.rules.specs.declared.Record.{Record}
 use Rattle.rules.specs.Rules.{recordChecks, recordVerdict, Writable}
 use Rattle.rules.specs.Written.{recordKept, RecordFits, FaultSaid}
@@ -65,6 +65,12 @@ module _ (m : Record) (b w : List ℕ) (room : ℕ) (n : BytePlace) (h : RecordF
   pub titles-written : titlesIn (fileOf m b w) ≡ entriesOf b (m .titles)
   titles-written = entries-back m b w h (no-fault (says .rules)) (says .limit) (record-taken (says .rules)) (says .titles)
 
+  texts-written : textsIn (fileOf m b w) ≡ take (length (textsIn (fileOf m b w))) b
+  texts-written =
+      let e = titles-written in
+      subst (λ (es : List Entry). textsOf es ≡ take (length (textsOf es)) b) (sym e)
+      (round-texts (namesIn (m .cues)) b (m .titles) (h .titles) (says .titles))
+
 pub back : Back
 unfolding Back reading soundIn
 back m b w room n h e =
@@ -75,6 +81,7 @@ back m b w room n h e =
       made = ap (λ (x : Content). readingOf x .made) c;
       sound = ap soundOf c;
       titles = titles-written m b w room n h e;
+      texts = texts-written m b w room n h e;
     }
 
 -- ---- what is read is written again

@@ -4,7 +4,7 @@ use mathlib.Core.Path.{_≡_}
 use mathlib.Core.Bool.{true, false, not}
 use mathlib.Core.List.{List, [], _∷_}
 use lib.Dec.{T}
-use lib.ListN.{length}
+use lib.ListN.{length, take}
 use lib.Pow.{areBytes}
 use Rattle.units.specs.Refusals.{fileLimit}
 use Rattle.units.specs.declared.BytePlace.{BytePlace}
@@ -26,13 +26,14 @@ use Rattle.writer.specs.Promise.{writeNumber}
 use Rattle.writer.specs.File.{sizeOf, factChunk, cuesChunk, playsChunk, fileOf, writing, writtenNumber}
 
 -- ---- a written file, n bytes long, reads back to the same record, zero past the counts, to the sound handed over, byte for byte, and
--- to the same titles with their texts
+-- to the same titles with their texts, which are the bytes lent for them, from the first on
 pub record ReadsBack (m : Record) (b w : List ℕ) (n : BytePlace) : Type 0 where
   pub long : n ≡ sizeOf (fileOf m b w)
   pub verdict : reading (fileOf m b w) .verdict ≡ verdict.Accepted
   pub made : reading (fileOf m b w) .made ≡ recordKept m
   pub sound : soundIn (fileOf m b w) ≡ w
   pub titles : titlesIn (fileOf m b w) ≡ entriesOf b (m .titles)
+  pub texts : textsIn (fileOf m b w) ≡ take (length (textsIn (fileOf m b w))) b
 
 unfoldable pub Back : Type 0
 Back =
