@@ -28,7 +28,7 @@ use Rattle.titles.proofs.Round.{none-in, titles-zero}
 use Rattle.rules.specs.declared.Record.{Record}
 use Rattle.rules.specs.declared.Reading.{Reading}
 use Rattle.rules.specs.Rules.{recordOf, chunkChecks, blank, turnedAway}
-use Rattle.reader.specs.Content.{Content, refused, holds, contentBy, soundPart, cuePart, playlistPart, titlesPart, recordAt, chunksChecks, checksAt, verdictAt, contentIn, contentOf, readingOf, soundOf, reading, soundIn, spotBy, soundFrom, soundSpot, titlesFrom, titlesSpot, titlesIn}
+use Rattle.reader.specs.Content.{Content, refused, holds, contentBy, soundPart, cuePart, playlistPart, titlesPart, recordAt, chunksChecks, checksAt, verdictAt, contentIn, contentOf, readingOf, soundOf, reading, soundIn, spotBy, soundPlace, soundSpot, titlesPlace, titlesSpot, titlesIn}
 use Rattle.reader.specs.Demands.{chunkNumber, ReadNumbered, Tied, Placed, Refusing, ZeroAfter, ZeroPast}
 
 pub tied : Tied
@@ -44,11 +44,11 @@ unfolding Placed reading soundIn contentOf soundSpot
 placed s = by (directoryOf s)
   where
     at : (d : Directory) (v : Verdict) (m : Record)
-        → partOf s (spotBy soundFrom (readingOf (contentBy v m (soundPart s d)) .verdict) (Whole d)) [] ≡ soundOf (contentBy v m (soundPart s d))
+        → partOf s (spotBy soundPlace (readingOf (contentBy v m (soundPart s d)) .verdict) (Whole d)) [] ≡ soundOf (contentBy v m (soundPart s d))
     at d Accepted m = refl
     at d (Refused r) m = refl
 
-    by : (w : Walked) → partOf s (spotBy soundFrom (readingOf (contentIn s w) .verdict) w) [] ≡ soundOf (contentIn s w)
+    by : (w : Walked) → partOf s (spotBy soundPlace (readingOf (contentIn s w) .verdict) w) [] ≡ soundOf (contentIn s w)
     by (Whole d) = at d (verdictAt s d) (recordAt s d)
     by (Stopped r) = refl
 
@@ -67,14 +67,14 @@ module _ (s : List ℕ) (P : Reading → Spot → Spot → Type 0) (none : (r : 
     where
       at : (d : Directory) (v : Verdict) → directoryOf s ≡ Whole d → verdictAt s d ≡ v
           → P (readingOf (contentBy v (recordAt s d) (soundPart s d)))
-          (spotBy soundFrom (readingOf (contentBy v (recordAt s d) (soundPart s d)) .verdict) (Whole d))
-          (spotBy titlesFrom (readingOf (contentBy v (recordAt s d) (soundPart s d)) .verdict) (Whole d))
+          (spotBy soundPlace (readingOf (contentBy v (recordAt s d) (soundPart s d)) .verdict) (Whole d))
+          (spotBy titlesPlace (readingOf (contentBy v (recordAt s d) (soundPart s d)) .verdict) (Whole d))
       at d Accepted e h = some d e h
       at d (Refused r) e h = none r
 
       by : (w : Walked) → directoryOf s ≡ w
-          → P (readingOf (contentIn s w)) (spotBy soundFrom (readingOf (contentIn s w) .verdict) w)
-          (spotBy titlesFrom (readingOf (contentIn s w) .verdict) w)
+          → P (readingOf (contentIn s w)) (spotBy soundPlace (readingOf (contentIn s w) .verdict) w)
+          (spotBy titlesPlace (readingOf (contentIn s w) .verdict) w)
       by (Whole d) e = at d (verdictAt s d) e refl
       by (Stopped r) e = none r
 

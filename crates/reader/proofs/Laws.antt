@@ -25,7 +25,7 @@ use Rattle.formats.specs.Frames.{needsFact}
 use Rattle.rules.specs.declared.Record.{Record}
 use Rattle.rules.specs.declared.Reading.{Reading}
 use Rattle.rules.specs.Rules.{turnedAway, readingBy, judged}
-use Rattle.reader.specs.Content.{Content, contentBy, zeros, formatPart, soundPart, cuePart, playlistPart, chunksAt, recordAt, judgedAt, checksAt, verdictAt, contentAt, contentIn, contentOf, readingOf, reading, spotBy, soundFrom, soundSpot, titlesFrom, titlesSpot}
+use Rattle.reader.specs.Content.{Content, contentBy, zeros, formatPart, soundPart, cuePart, playlistPart, chunksAt, recordAt, judgedAt, checksAt, verdictAt, contentAt, contentIn, contentOf, readingOf, reading, spotBy, soundPlace, soundSpot, titlesPlace, titlesSpot}
 
 -- ---- parts
 module _ (s : List ℕ) (spot : Spot) (f : Format) (needed needless : List ℕ) {a : Bool} (e : a ≡ needsFact f) {r : List ℕ} where
@@ -102,20 +102,20 @@ module _ (s : List ℕ) {w : Walked} (e : w ≡ directoryOf s) where
   module _ {r : Refusal} (f : w ≡ Stopped r) where
     pub sound-stopped : {spot : Spot} → spot ≡ Missing → spot ≡ soundSpot s
     unfolding soundSpot
-    sound-stopped g = g ∙ spot-by soundFrom (verdict-by f) f
+    sound-stopped g = g ∙ spot-by soundPlace (verdict-by f) f
 
     pub titles-stopped : {spot : Spot} → spot ≡ Missing → spot ≡ titlesSpot s
     unfolding titlesSpot
-    titles-stopped g = g ∙ spot-by titlesFrom (verdict-by f) f
+    titles-stopped g = g ∙ spot-by titlesPlace (verdict-by f) f
 
   module _ {d : Directory} {spot : Spot} (f : w ≡ Whole d) where
-    pub sound-whole : spot ≡ spotBy soundFrom (readingOf (contentAt s d) .verdict) (Whole d) → spot ≡ soundSpot s
+    pub sound-whole : spot ≡ spotBy soundPlace (readingOf (contentAt s d) .verdict) (Whole d) → spot ≡ soundSpot s
     unfolding soundSpot
-    sound-whole g = g ∙ spot-by soundFrom (verdict-by f) f
+    sound-whole g = g ∙ spot-by soundPlace (verdict-by f) f
 
-    pub titles-whole : spot ≡ spotBy titlesFrom (readingOf (contentAt s d) .verdict) (Whole d) → spot ≡ titlesSpot s
+    pub titles-whole : spot ≡ spotBy titlesPlace (readingOf (contentAt s d) .verdict) (Whole d) → spot ≡ titlesSpot s
     unfolding titlesSpot
-    titles-whole g = g ∙ spot-by titlesFrom (verdict-by f) f
+    titles-whole g = g ∙ spot-by titlesPlace (verdict-by f) f
 
 pub ruleset whole = (
   whole-limit,
@@ -132,11 +132,11 @@ module _ (d : Directory) {v : Verdict} where
   pub spot-refused : (which : Directory → Spot) {r : Refusal} → v ≡ Refused r → Missing ≡ spotBy which v (Whole d)
   spot-refused which h = ap (λ (u : Verdict). spotBy which u (Whole d)) (sym h)
 
-  pub sound-taken : v ≡ Accepted → d .sound ≡ spotBy soundFrom v (Whole d)
-  sound-taken h = ap (λ (u : Verdict). spotBy soundFrom u (Whole d)) (sym h)
+  pub sound-taken : v ≡ Accepted → d .sound ≡ spotBy soundPlace v (Whole d)
+  sound-taken h = ap (λ (u : Verdict). spotBy soundPlace u (Whole d)) (sym h)
 
-  pub titles-taken : v ≡ Accepted → d .titles ≡ spotBy titlesFrom v (Whole d)
-  titles-taken h = ap (λ (u : Verdict). spotBy titlesFrom u (Whole d)) (sym h)
+  pub titles-taken : v ≡ Accepted → d .titles ≡ spotBy titlesPlace v (Whole d)
+  titles-taken h = ap (λ (u : Verdict). spotBy titlesPlace u (Whole d)) (sym h)
 
 pub ruleset standing = (spot-refused, sound-taken, titles-taken)
 

@@ -23,7 +23,7 @@ use Rattle.riff.specs.Chunks.{headVerdict, keep, chunkAt}
 use Rattle.riff.specs.Walk.{nothingYet, stepThen, stepsFrom, stepsOf, gather, walkOf, afterHead, directoryOf, bySpot, startOf}
 use Rattle.riff.proofs.Placing.{by-titles}
 use Rattle.riff.proofs.Walking.{met}
-use Rattle.reader.specs.Content.{reading, spotBy, soundFrom, soundSpot, soundStart}
+use Rattle.reader.specs.Content.{reading, spotBy, soundPlace, soundSpot, soundStart}
 
 module _ (s : List ℕ) where
   abbrev pub Inside : Spot → Type 0
@@ -74,7 +74,7 @@ module _ (s : List ℕ) where
   unfolding soundSpot
   spot-inside = by (reading s .verdict) (directoryOf s) walked
     where
-      by : (v : Verdict) (w : Walked) → Inside (soundAt w) → Inside (spotBy soundFrom v w)
+      by : (v : Verdict) (w : Walked) → Inside (soundAt w) → Inside (spotBy soundPlace v w)
       by verdict.Accepted (Whole d) h = h
       by verdict.Accepted (Stopped r) h = tt
       by (verdict.Refused r) w h = tt

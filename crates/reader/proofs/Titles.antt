@@ -39,7 +39,7 @@ use Rattle.titles.proofs.Round.{none-in, none-texts, none-titles, none-valid, v
 use Rattle.rules.specs.declared.Record.{Record}
 use Rattle.rules.specs.declared.Reading.{Reading}
 use Rattle.rules.specs.Rules.{ChunkBytes, recordOf, withTitles, chunkChecks, verdictOf, turnedAway, readingBy, judged}
-use Rattle.reader.specs.Content.{Content, contentBy, soundPart, titlesPart, chunksAt, recordAt, titlesValid, chunksChecks, listed, judgedAt, checksAt, verdictAt, contentIn, contentOf, readingOf, reading, spotBy, soundFrom, soundSpot, titlesFrom, titlesSpot, titlesIn, textsIn, readingIn}
+use Rattle.reader.specs.Content.{Content, contentBy, soundPart, titlesPart, chunksAt, recordAt, titlesValid, chunksChecks, titled, judgedAt, checksAt, verdictAt, contentIn, contentOf, readingOf, reading, spotBy, soundPlace, soundSpot, titlesPlace, titlesSpot, titlesIn, textsIn, readingIn}
 use Rattle.reader.specs.Demands.{Refusing, TextsMost, TitlesTold}
 use Rattle.reader.proofs.Demands.{by-file, refusing}
 use Rattle.reader.proofs.Laws.{spot-same}
@@ -58,21 +58,26 @@ module _ (m : Record) (lost : Bool) (l : List ℕ) {r : ListRead} (e : r ≡ lis
       by true = refl
       by false = refl
 
-  pub listed-wrong : {x : Reading} → not (r .valid) ≡ true → x ≡ turnedAway TitlesWrong → x ≡ listed m lost l
-  unfolding listed
-  listed-wrong h f = f ∙ sym (simp (valid-told ∙ not-true (r .valid) h))
+  pub titled-wrong : {x : Reading} → not (r .valid) ≡ true → x ≡ turnedAway TitlesWrong → x ≡ titled m lost l
+  unfolding titled
+  titled-wrong h f = f ∙ sym (simp (valid-told ∙ not-true (r .valid) h))
 
-  pub listed-right : {x : Record} → not (r .valid) ≡ false → x ≡ withTitles m (r .titles) → record { verdict = Accepted; made = x } ≡ listed m lost l
-  unfolding listed listRead
-  listed-right h f =
+  pub titled-right : {x : Record} → not (r .valid) ≡ false → x ≡ withTitles m (r .titles) → record { verdict = Accepted; made = x } ≡ titled m lost l
+  unfolding titled listRead
+  titled-right h f =
       let v : listValid lost l (namesIn (m .cues)) ≡ true = valid-told ∙ not-false (r .valid) h in
       let g : r ≡ record { valid = true; titles = titlesOf l } = e ∙ simp v in
       let t : r .titles ≡ titlesOf l = ap (λ (x : ListRead). x .titles) g in
       (λ i. record { verdict = Accepted; made = f i }) ∙ (λ i. record { verdict = Accepted; made = withTitles m (t i) }) ∙ sym (simp v)
 
-pub ruleset listing = (listed-wrong, listed-right)
+pub ruleset listing = (titled-wrong, titled-right)
 
 -- ---- what chunks say, with the list of titles
+-- a chunk that is not there has no data
+absent : (s : List ℕ) (spot : Spot) → isThere spot ≡ false → partOf s spot [] ≡ []
+absent s (At p) e = let z : _≡_ {A = ℕ} 0 1 = cc in absurd (omega arith)
+absent s Missing e = refl
+
 module _ (s : List ℕ) (d : Directory) where
   abbrev b : ChunkBytes
   b = chunksAt s d
@@ -121,21 +126,17 @@ module _ (s : List ℕ) (d : Directory) where
         untitled-taken : isThere (d .titles) ≡ false → u ≡ judgedAt s d
         unfolding judged recordOf
         untitled-taken k =
-            let missing : titlesPart s d ≡ [] = absent (d .titles) k in
+            let missing : titlesPart s d ≡ [] = absent s (d .titles) k in
             accepted (simp (f, missing, none-valid))
             (e ∙ ap (λ (v : Verdict). readingBy v (recordOf b)) (others ∙ h)
             ∙ ap (λ (t : Titles). record { verdict = Accepted; made = withTitles (recordOf b) t }) (sym (ap titlesOf missing ∙ none-titles)))
-          where
-            absent : (spot : Spot) → isThere spot ≡ false → partOf s spot [] ≡ []
-            absent (At p) q = let z : _≡_ {A = ℕ} 0 1 = cc in absurd (omega arith)
-            absent Missing q = refl
 
-        pub titled-list : {x : Reading} {lost : Bool} {l : List ℕ} → l ≡ titlesPart s d → lost ≡ padLost (d .titles) → x ≡ listed (u .made) lost l → x ≡ judgedAt s d
-        unfolding listed
+        pub titled-list : {x : Reading} {lost : Bool} {l : List ℕ} → l ≡ titlesPart s d → lost ≡ padLost (d .titles) → x ≡ titled (u .made) lost l → x ≡ judgedAt s d
+        unfolding titled
         titled-list {x} g k q = by (listValid (padLost (d .titles)) (titlesPart s d) (namesIn (recordOf b .cues))) refl
           where
-            so : x ≡ listed (recordOf b) (padLost (d .titles)) (titlesPart s d)
-            so = q ∙ (λ i. listed (made-so i) (k i) (g i))
+            so : x ≡ titled (recordOf b) (padLost (d .titles)) (titlesPart s d)
+            so = q ∙ (λ i. titled (made-so i) (k i) (g i))
 
             by : (y : Bool) → listValid (padLost (d .titles)) (titlesPart s d) (namesIn (recordOf b .cues)) ≡ y → x ≡ judgedAt s d
             by true v = accepted (simp (f, v)) (so ∙ simp v)
@@ -172,6 +173,7 @@ pub record TextsKnown (s : List ℕ) (r : Reading) (spot : Spot) : Type 0 where
   pub ends : textsEnd (r .made .titles) ≡ length (textsOf (entriesIn (partOf s spot [])))
   pub short : length (partOf s spot []) ≤ fileLimit
   pub form : listForm (padLost spot) (partOf s spot []) ≡ true
+  pub none : isThere spot ≡ false → r .made .titles ≡ noTitles
 
 texts-known : (s : List ℕ) → TextsKnown s (reading s) (titlesSpot s)
 unfolding textsEnd
@@ -183,6 +185,7 @@ texts-known s =
       ends = sym (ap length none-texts);
       short = omega arith;
       form = valid-form false [] [] (none-valid false []);
+      none = λ e. refl;
     })
     (λ d w v.
     let e = titles-valid s d (formed s d v) in
@@ -192,6 +195,7 @@ texts-known s =
       ends = valid-ends (padLost (d .titles)) (titlesPart s d) names e;
       short = omega (arith, part-within s (d .titles), whole-limit s refl w);
       form = valid-form (padLost (d .titles)) (titlesPart s d) names e;
+      none = λ f. ap titlesOf (absent s (d .titles) f) ∙ none-titles;
     })
 
 module _ (s : List ℕ) {r : Reading} (a : r ≡ reading s) where
@@ -220,11 +224,13 @@ module _ (s : List ℕ) {spot : Spot} (t : spot ≡ titlesSpot s) where
   -- without a list there is nothing to put
   pub texts-absent : (d : List ℕ) {b : Bool} → b ≡ isThere spot → not b ≡ true → d ≡ front (textsIn s) d
   unfolding front
-  texts-absent d {b} e h = sym (ap (λ (ys : List ℕ). front ys d) (all-texts ∙ by spot (sym e ∙ not-true b h)))
-    where
-      by : (x : Spot) → isThere x ≡ false → textsOf (entriesIn (partOf s x [])) ≡ []
-      by (At p) g = let z : _≡_ {A = ℕ} 0 1 = cc in absurd (omega arith)
-      by Missing g = none-texts
+  texts-absent d {b} e h =
+      let none = ap (λ (l : List ℕ). textsOf (entriesIn l)) (absent s spot (sym e ∙ not-true b h)) ∙ none-texts in
+      sym (ap (λ (ys : List ℕ). front ys d) (all-texts ∙ none))
+
+  -- and the record has no titles
+  pub titles-absent : {r : Reading} {b : Bool} → r ≡ reading s → b ≡ isThere spot → b ≡ false → r .made .titles ≡ noTitles
+  titles-absent a e h = ap (λ (x : Reading). x .made .titles) a ∙ known .none (sym e ∙ h)
 
   module _ {l : List ℕ} (g : l ≡ partOf s spot []) where
     pub texts-room : {n room : ℕ} → n ≡ length (textsIn s) → n ≤ room → length (textsOf (entriesIn l)) ≤ room
@@ -291,8 +297,8 @@ module _ (s : List ℕ) {m : Record} {w : List ℕ} (h : Held s m w) where
   titles-held =
       let d : Directory = h .places in
       ap (λ (x : Spot). entriesIn (partOf s x []))
-      ((λ i. spotBy titlesFrom (readingOf (contentIn s (h .walked i)) .verdict) (h .walked i))
-      ∙ (λ i. spotBy titlesFrom (readingOf (contentBy (h .verdict i) (recordAt s d) (soundPart s d)) .verdict) (Whole d)))
+      ((λ i. spotBy titlesPlace (readingOf (contentIn s (h .walked i)) .verdict) (h .walked i))
+      ∙ (λ i. spotBy titlesPlace (readingOf (contentBy (h .verdict i) (recordAt s d) (soundPart s d)) .verdict) (Whole d)))
 
   held-valid : listValid (padLost (h .places .titles)) (titlesPart s (h .places)) (namesIn (recordAt s (h .places) .cues)) ≡ true
   held-valid = titles-valid s (h .places) (formed s (h .places) (h .verdict))

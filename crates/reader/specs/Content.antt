@@ -84,8 +84,8 @@ unfoldable pub chunksChecks : List ℕ → Directory → List Check
 chunksChecks s d = chunkChecks (chunksAt s d) (recordAt s d) ++ (check (titlesValid s d) TitlesWrong ∷ [])
 
 -- what functions of the code answer: a record with the titles of a list; and what chunks say that are there
-unfoldable pub listed : Record → Bool → List ℕ → Reading
-listed m lost l =
+unfoldable pub titled : Record → Bool → List ℕ → Reading
+titled m lost l =
     cond (listValid lost l (namesIn (m .cues))) (record { verdict = Accepted; made = withTitles m (titlesOf l) }) (turnedAway TitlesWrong)
 
 unfoldable pub judgedAt : List ℕ → Directory → Reading
@@ -142,11 +142,11 @@ spotBy which Accepted (Stopped r) = Missing
 spotBy which (Refused r) w = Missing
 
 -- the sound: at the data of `data`
-abbrev pub soundFrom : Directory → Spot
-soundFrom d = d .sound
+abbrev pub soundPlace : Directory → Spot
+soundPlace d = d .sound
 
 unfoldable pub soundSpot : List ℕ → Spot
-soundSpot s = spotBy soundFrom (reading s .verdict) (directoryOf s)
+soundSpot s = spotBy soundPlace (reading s .verdict) (directoryOf s)
 
 -- where in the file it starts; the empty sound of a refused file stands at the file's start
 unfoldable pub soundStart : List ℕ → ℕ
@@ -154,11 +154,11 @@ soundStart s = startOf (soundSpot s)
 
 -- ---- its titles, where their list stands, and their texts with their zeros, in file order
 
-abbrev pub titlesFrom : Directory → Spot
-titlesFrom d = d .titles
+abbrev pub titlesPlace : Directory → Spot
+titlesPlace d = d .titles
 
 unfoldable pub titlesSpot : List ℕ → Spot
-titlesSpot s = spotBy titlesFrom (reading s .verdict) (directoryOf s)
+titlesSpot s = spotBy titlesPlace (reading s .verdict) (directoryOf s)
 
 unfoldable pub titlesIn : List ℕ → List Entry
 titlesIn s = entriesIn (partOf s (titlesSpot s) [])

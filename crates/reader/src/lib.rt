@@ -24,8 +24,8 @@ ghost use Rattle.rules.specs.Rules.{turnedAway, judged};
 ghost use Rattle.riff.specs.declared.Spot.the-variants.{Missing};
 ghost use Rattle.riff.specs.declared.Walked.the-variants.{Whole};
 ghost use Rattle.riff.specs.Chunks.{isThere};
-ghost use Rattle.reader.specs.Content.{chunksAt, contentAt, listed, judgedAt, readingOf, reading, spotBy, soundFrom, soundSpot, soundIn, soundStart};
-ghost use Rattle.reader.specs.Content.{titlesFrom, titlesSpot, textsIn, readingIn};
+ghost use Rattle.reader.specs.Content.{chunksAt, contentAt, titled, judgedAt, readingOf, reading, spotBy, soundPlace, soundSpot, soundIn, soundStart};
+ghost use Rattle.reader.specs.Content.{titlesPlace, titlesSpot, textsIn, readingIn};
 
 // What a file says, and where its sound data and its list of titles stand.
 pub struct Opened {
@@ -81,7 +81,7 @@ fn read_parts(file: &[u8], places: Directory) -> Reading
 // A record with the titles of a list, whose own pad is lost or not, or the refusal.
 fn with_list(made: Record, list: &[u8], lost: bool) -> Reading
     requires { ⌜ length (now list) ≤ fileLimit ⌝ }
-    ensures answer { λ r. ⌜ r ≡ listed made lost (now (list .entry)) ⌝ }
+    ensures answer { λ r. ⌜ r ≡ titled made lost (now (list .entry)) ⌝ }
 {
     let cues = made.cues;
     let read = titles::read_list(list, lost, cues);
@@ -114,8 +114,8 @@ fn read_titles(file: &[u8], places: Directory, untitled: Reading) -> Reading
 // The answer to a file, and where its sound data and its list of titles stand; of a refused file, nowhere.
 fn opened_by(answer: Reading, places: Directory) -> Opened
     ensures answer { λ r. ⌜ r .answer ≡ answer ⌝ }
-    ensures sound { λ r. ⌜ r .sound ≡ spotBy soundFrom (answer .verdict) (Whole places) ⌝ }
-    ensures titles { λ r. ⌜ r .titles ≡ spotBy titlesFrom (answer .verdict) (Whole places) ⌝ }
+    ensures sound { λ r. ⌜ r .sound ≡ spotBy soundPlace (answer .verdict) (Whole places) ⌝ }
+    ensures titles { λ r. ⌜ r .titles ≡ spotBy titlesPlace (answer .verdict) (Whole places) ⌝ }
 {
     let verdict = answer.verdict;
     let sound_at = places.sound;
@@ -164,8 +164,8 @@ fn has_list(places: Directory) -> bool
 fn open_parts(file: &[u8], places: Directory) -> Opened
     requires { ⌜ length (now file) ≤ fileLimit ⌝ }
     ensures answer { λ r. ⌜ r .answer ≡ judgedAt (now (file .entry)) places ⌝ }
-    ensures sound { λ r. ⌜ r .sound ≡ spotBy soundFrom (judgedAt (now (file .entry)) places .verdict) (Whole places) ⌝ }
-    ensures titles { λ r. ⌜ r .titles ≡ spotBy titlesFrom (judgedAt (now (file .entry)) places .verdict) (Whole places) ⌝ }
+    ensures sound { λ r. ⌜ r .sound ≡ spotBy soundPlace (judgedAt (now (file .entry)) places .verdict) (Whole places) ⌝ }
+    ensures titles { λ r. ⌜ r .titles ≡ spotBy titlesPlace (judgedAt (now (file .entry)) places .verdict) (Whole places) ⌝ }
 {
     let untitled = read_parts(file, places);
     if !has_list(places) {
@@ -180,9 +180,9 @@ fn open_chunks(file: &[u8], places: Directory) -> Opened
     requires { ⌜ length (now file) ≤ fileLimit ⌝ }
     ensures answer { λ r. ⌜ r .answer ≡ readingOf (contentAt (now (file .entry)) places) ⌝ }
     ensures sound { λ r. ⌜ r .sound
-        ≡ spotBy soundFrom (readingOf (contentAt (now (file .entry)) places) .verdict) (Whole places) ⌝ }
+        ≡ spotBy soundPlace (readingOf (contentAt (now (file .entry)) places) .verdict) (Whole places) ⌝ }
     ensures titles { λ r. ⌜ r .titles
-        ≡ spotBy titlesFrom (readingOf (contentAt (now (file .entry)) places) .verdict) (Whole places) ⌝ }
+        ≡ spotBy titlesPlace (readingOf (contentAt (now (file .entry)) places) .verdict) (Whole places) ⌝ }
 {
     let format = places.format;
     let sound = places.sound;

@@ -139,7 +139,7 @@ fn kind_at(file: &[u8], at: usize) -> Kind
 }
 
 // The pad after data of some size that end at a place, in a file so long: absent only where they end with it.
-fn pad_after(size: usize, end: usize, long: usize) -> Pad
+pub fn pad_after(size: usize, end: usize, long: usize) -> Pad
     ensures answer { λ r. ⌜ r ≡ padAfter size end long ⌝ }
 {
     if size % 2 == 0 {
@@ -152,7 +152,7 @@ fn pad_after(size: usize, end: usize, long: usize) -> Pad
 }
 
 // How many bytes a pad has.
-fn pad_size(pad: Pad) -> usize
+pub fn pad_size(pad: Pad) -> usize
     ensures answer { λ r. ⌜ r ≡ padSize pad ⌝ }
     ensures bound { λ r. ⌜ r ≤ 1 ⌝ }
 {
@@ -164,7 +164,7 @@ fn pad_size(pad: Pad) -> usize
 }
 
 // The chunk that starts at a place, where it fits the file.
-pub fn place_at(file: &[u8], at: BytePlace) -> Step
+fn place_at(file: &[u8], at: BytePlace) -> Step
     ensures answer { λ r. ⌜ r ≡ placeAt (now (file .entry)) at ⌝ }
 {
     let a = at.0;
@@ -337,7 +337,7 @@ fn is_kept(kind: Kind) -> bool
 }
 
 // The directory with a list of titles more: its place where it is the first, else only that another came.
-fn with_titles(seen: Directory, place: Place) -> Directory
+fn kept_titles(seen: Directory, place: Place) -> Directory
     ensures answer { λ r. ⌜ r ≡ keepTitles seen place ⌝ }
 {
     let format = seen.format;
@@ -372,7 +372,7 @@ fn kept(seen: Directory, place: Place) -> Directory
         Kind::Fact => listed(format, sound, here, cues, plays, titles, second),
         Kind::Cues => listed(format, sound, fact, here, plays, titles, second),
         Kind::Plays => listed(format, sound, fact, cues, here, titles, second),
-        Kind::Titles => with_titles(seen, place),
+        Kind::Titles => kept_titles(seen, place),
         Kind::Listing => seen,
         Kind::Other => seen,
     }

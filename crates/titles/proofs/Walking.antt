@@ -17,13 +17,9 @@ use Rattle.lists.proofs.Laws.{and-both}
 use Rattle.codes.specs.Codes.{isAt}
 use Rattle.codes.specs.declared.Code.the-variants.{Label, Note}
 use Rattle.units.specs.Refusals.{fileLimit}
-use Rattle.units.specs.declared.Refusal.{Refusal}
-use Rattle.units.specs.declared.Refusal.the-variants.{ChunkPastTheEnd}
-use Rattle.riff.specs.declared.Place.{Place}
-use Rattle.riff.specs.declared.Step.{Step}
-use Rattle.riff.specs.declared.Step.the-variants.{Chunk, Refused}
-use Rattle.riff.specs.Chunks.{sizeAt, endAt, padAt, nextAt, placed, passes, placeAt}
-use Rattle.riff.proofs.Padding.{next-place as next-place-in}
+use Rattle.riff.specs.declared.Pad.{Pad}
+use Rattle.riff.specs.Chunks.{sizeAt, endAt, padAfter, padSize, padAt, nextAt, passes}
+use Rattle.riff.proofs.Padding.{next-place}
 use Rattle.titles.specs.declared.Title.{Title}
 use Rattle.titles.specs.declared.Titles.{Titles}
 use Rattle.titles.specs.declared.Front.{Front}
@@ -69,39 +65,6 @@ module _ (kind size : ℕ) where
 
 pub ruleset fronts = (kind-label, kind-note, kind-other, size-any, size-small, size-most)
 
--- ---- a step: the chunk at the front passes the end, or is the one that stands there
-module _ (l : List ℕ) {step : Step} (a : step ≡ placeAt l (record { 0 = 0 })) where
-  pub cut-off : {r : Refusal} → step ≡ Refused r → passes l 0 ≡ true
-  unfolding placeAt
-  cut-off {r} e = by (passes l 0) (sym a ∙ e)
-    where
-      by : (b : Bool) → cond b (Refused ChunkPastTheEnd) (Chunk (placed l 0)) ≡ Refused r → b ≡ true
-      by true f = refl
-      by false f = let z : _≡_ {A = ℕ} 0 1 = cc in absurd (omega arith)
-
-  module _ {p : Place} (e : step ≡ Chunk p) where
-    pub fits-in : passes l 0 ≡ false
-    unfolding placeAt
-    fits-in = by (passes l 0) (sym a ∙ e)
-      where
-        by : (b : Bool) → cond b (Refused ChunkPastTheEnd) (Chunk (placed l 0)) ≡ Chunk p → b ≡ false
-        by true f = let z : _≡_ {A = ℕ} 0 1 = cc in absurd (omega arith)
-        by false f = refl
-
-    pub same-place : placed l 0 ≡ p
-    unfolding placeAt
-    same-place = by (passes l 0) (sym a ∙ e)
-      where
-        by : (b : Bool) → cond b (Refused ChunkPastTheEnd) (Chunk (placed l 0)) ≡ Chunk p → placed l 0 ≡ p
-        by true f = let z : _≡_ {A = ℕ} 0 1 = cc in absurd (omega arith)
-        by false f = cc
-
-    pub next-place : nextAt l 0 ≡ p .next .0
-    next-place = ap (λ (q : Place). q .next .0) same-place
-
-    pub size-place : p .size .0 ≡ sizeAt l 0
-    size-place = sym (ap (λ (q : Place). q .size .0) same-place)
-
 -- a chunk that does not pass the end has its data before it
 pub within : (l : List ℕ) → passes l 0 ≡ false → 8 + sizeAt l 0 ≤ length l
 within l e = ltb-false (length l) (endAt l 0) (second (ltb (length l) 8) (ltb (length l) (endAt l 0)) e)
@@ -112,42 +75,50 @@ within l e = ltb-false (length l) (endAt l 0) (second (ltb (length l) 8) (ltb (l
 
 -- and so has what there is of its pad
 pub next-within : (l : List ℕ) → passes l 0 ≡ false → nextAt l 0 ≤ length l
-next-within l e = omega (arith, next-place-in (sizeAt l 0) (endAt l 0) (length l) (within l e))
+next-within l e = omega (arith, next-place (sizeAt l 0) (endAt l 0) (length l) (within l e))
 
 -- ---- the chunk at the front fits, or does not
 module _ (lost : Bool) (l : List ℕ) where
-  unfit : frontFits lost l ≡ false → noFront ≡ frontOf lost l
+  unfit : {x : Front} → frontFits lost l ≡ false → x ≡ noFront → x ≡ frontOf lost l
   unfolding frontOf
-  unfit e = simp e
+  unfit e f = f ∙ simp e
 
-  module _ {step : Step} (a : step ≡ placeAt l (record { 0 = 0 })) where
-    pub front-cut : {r : Refusal} {x : Front} → step ≡ Refused r → x ≡ noFront → x ≡ frontOf lost l
+  pub front-short : {x : Front} → length l < 8 → x ≡ noFront → x ≡ frontOf lost l
+  unfolding frontFits
+  front-short h = unfit (simp (lt-ltb (length l) 8 h))
+
+  module _ (h : 8 ≤ length l) {n : ℕ} (a : n ≡ sizeAt l 0) where
+    pub front-cut : {x : Front} → length l < 8 + n → x ≡ noFront → x ≡ frontOf lost l
     unfolding frontFits
-    front-cut e f = f ∙ unfit (simp (cut-off l a e))
+    front-cut g = unfit (simp (le-ltb (length l) 8 h, lt-ltb (length l) (endAt l 0) (omega arith)))
 
-    module _ {p : Place} (e : step ≡ Chunk p) {b : Bool} (f : b ≡ padFits lost (p .pad)) where
+    module _ (g : 8 + n ≤ length l) {p : Pad} (q : p ≡ padAfter n (8 + n) (length l)) {b : Bool} (f : b ≡ padFits lost p) where
+      whole : passes l 0 ≡ false
+      whole = simp (le-ltb (length l) 8 h, le-ltb (length l) (endAt l 0) (omega arith))
+
       pad-so : padFits lost (padAt l 0) ≡ b
-      pad-so = ap (λ (q : Place). padFits lost (q .pad)) (same-place l a e) ∙ sym f
+      pad-so = sym (f ∙ ap (padFits lost) q ∙ ap (λ (k : ℕ). padFits lost (padAfter k (8 + k) (length l))) a)
 
       pub front-unpadded : {x : Front} → not b ≡ true → x ≡ noFront → x ≡ frontOf lost l
       unfolding frontFits
-      front-unpadded g h = h ∙ unfit (simp (pad-so ∙ not-true b g, and-false))
+      front-unpadded e = unfit (simp (pad-so ∙ not-true b e, and-false))
 
-      module _ (g : not b ≡ false) {k : ℕ} (u : k ≡ frontKind l) {d : Bool} (s : d ≡ sizeFits k (p .size .0)) where
+      module _ (e : not b ≡ false) {k : ℕ} (u : k ≡ frontKind l) {d : Bool} (s : d ≡ sizeFits k n) where
         size-so : sizeFits (frontKind l) (sizeAt l 0) ≡ d
-        size-so = sym (s ∙ (λ i. sizeFits (u i) (size-place l a e i)))
+        size-so = sym (s ∙ (λ i. sizeFits (u i) (a i)))
 
         pub front-missized : {x : Front} → not d ≡ true → x ≡ noFront → x ≡ frontOf lost l
         unfolding frontFits
-        front-missized h q = q ∙ unfit (simp (size-so ∙ not-true d h, and-false))
+        front-missized r = unfit (simp (size-so ∙ not-true d r, and-false))
 
-        pub front-fits : not d ≡ false → record { fits = true; kind = k; size = p .size .0; next = p .next .0 } ≡ frontOf lost l
+        pub front-fits : {m : ℕ} → not d ≡ false → m ≡ padSize p
+            → record { fits = true; kind = k; size = n; next = 8 + n + m } ≡ frontOf lost l
         unfolding frontFits frontOf
-        front-fits h =
-            let t : frontFits lost l ≡ true = simp (fits-in l a e, pad-so ∙ not-false b g, size-so ∙ not-false d h) in
-            (λ i. record { fits = true; kind = u i; size = size-place l a e i; next = sym (next-place l a e) i }) ∙ sym (simp t)
+        front-fits r t =
+            let v : frontFits lost l ≡ true = simp (whole, pad-so ∙ not-false b e, size-so ∙ not-false d r) in
+            simp (v, t, q, a, u)
 
-pub ruleset fronting = (front-cut, front-unpadded, front-missized, front-fits)
+pub ruleset fronting = (front-short, front-cut, front-unpadded, front-missized, front-fits)
 
 -- ---- one chunk of what is left
 module _ (l : List ℕ) where

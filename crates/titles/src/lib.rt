@@ -4,7 +4,6 @@
 // The text of a title stands in some bytes: in the list itself, or in a lent buffer of texts.
 use codes::Code;
 use riff::Pad;
-use riff::Step;
 use tables::Cues;
 use units::BytePlace;
 use units::Donation;
@@ -128,23 +127,27 @@ fn no_front() -> Front
 fn front_of(rest: &[u8], lost: bool) -> Front
     ensures answer { λ r. ⌜ r ≡ frontOf lost (now (rest .entry)) ⌝ }
 {
-    let step = riff::place_at(rest, BytePlace(0));
-    let Step::Chunk(place) = step else {
+    if rest.len() < 8 {
         return no_front();
-    };
-    let pad = place.pad;
+    }
+    let size = little::u32_at(rest, 4) as usize;
+    let end = 8 + size;
+    if rest.len() < end {
+        return no_front();
+    }
+    let pad = riff::pad_after(size, end, rest.len());
     if !pad_fits(lost, pad) {
         return no_front();
     }
     let kind = front_kind(rest);
-    if !size_fits(kind, place.size.0) {
+    if !size_fits(kind, size) {
         return no_front();
     }
     Front {
         fits: true,
         kind: kind,
-        size: place.size.0,
-        next: place.next.0,
+        size: size,
+        next: end + riff::pad_size(pad),
     }
 }
 

@@ -25,7 +25,7 @@ use Rattle.rules.specs.declared.Record.{Record}
 use Rattle.rules.specs.declared.Reading.{Reading}
 use Rattle.reader.specs.Content.{reading, soundSpot, soundIn, soundStart, textsIn}
 use Rattle.reader.proofs.Demands.{sound-placed}
-use Rattle.reader.proofs.Titles.{known-few, as-long}
+use Rattle.reader.proofs.Titles.{known-few, as-long, titles-absent}
 use Rattle.writer.specs.declared.Written.{Written}
 use Rattle.writer.specs.declared.Written.the-variants as written
 use Rattle.writer.specs.File.{fileOf, writing, writtenVerdict}
@@ -212,7 +212,7 @@ pub words-of : (s d : List ℕ) {x : Reading} {z : List ℕ} → x ≡ reading s
 words-of s d e f = f ∙ ap (λ (y : Reading). front (recordWords (y .made)) d) e
 
 pub ruleset putting =
-    (refused-number, refused-kept, taken-number, taken-kept, few-words, room-short, room-kept, room-enough, texts-lent, words-of, known-few, as-long)
+    (refused-number, refused-kept, taken-number, taken-kept, few-words, room-short, room-kept, room-enough, texts-lent, words-of, known-few, as-long, titles-absent)
 
 -- the reader's refusals go first
 module _ (s : List ℕ) (words room : ℕ) {x : Reading} (e : x ≡ reading s) where

@@ -132,7 +132,11 @@ fn put_opened(file: &[u8], opened: Opened, out: &mut [u32], texts: &mut [u8]) ->
     if !reader::put_texts(file, spot, end, texts) {
         return number_of(Refusal::OutputTooSmall);
     }
-    words::put_record(out, made);
+    if riff::there(spot) {
+        words::put_record(out, made);
+        return 0;
+    }
+    words::put_untitled(out, made);
     0
 }
 

@@ -1,16 +1,16 @@
 -- Laws of a record's words, in the words of the code. Assumes nothing.
-use mathlib.Core.Path.{_≡_, refl, ap, subst}
+use mathlib.Core.Path.{_≡_, refl, sym, ap, _∙_, subst}
 use mathlib.Core.Bool.{Bool, true}
 use mathlib.Core.List.{List, [], _∷_, _++_}
-use Prim.Native.Nat.{ℕ, _+_, _*_, _≤_, _<_}
+use Prim.Native.Nat.{ℕ, zero, suc, _+_, _*_, _≤_, _<_}
 use native.Mathlib.Omega.{arith}
-use lib.ListN.{length, getD, length-append}
+use lib.ListN.{length, getD, set, replicate, length-append, length-set, length-replicate, replicate-append-replicate}
 use lib.Dec.{ltb}
 use lib.Seq.{take-all}
 use Rattle.formats.specs.declared.Format.{Format}
 use borrow.Author.Tests.{ltb-true}
 use Rattle.little.specs.Writing.{Put, front}
-use Rattle.little.proofs.Filling.{put-long, put-next, put-front}
+use Rattle.little.proofs.Filling.{put-long, put-nothing, one-store, put-next, put-front}
 use Rattle.lists.specs.Every.{allBelow}
 use Rattle.lists.proofs.Laws.{every-at}
 use Rattle.tables.specs.declared.Cue.{Cue}
@@ -25,7 +25,7 @@ use Rattle.tables.proofs.Putting.{Entered, entries-begin, entry-room, entry-nex
 use Rattle.tables.proofs.Lengths.{entries-long}
 use Rattle.titles.specs.declared.Title.{Title}
 use Rattle.titles.specs.declared.Titles.{Titles}
-use Rattle.titles.specs.Titles.{noTitles}
+use Rattle.titles.specs.Titles.{noTitle, noTitles}
 use Rattle.rules.specs.declared.Record.{Record}
 use Rattle.rules.specs.Written.{RecordFits}
 use Rattle.rules.proofs.Typed.{record-typed}
@@ -139,6 +139,38 @@ module _ (t : Titles) where
 
 pub ruleset titles-putting = (array-long, title-list-room, titles-put)
 
+-- ---- a word again and again
+-- of n times, i are done
+pub record Repeated (word n at i : ℕ) (d d₀ : List ℕ) : Type 0 where
+  pub upto : i ≤ n
+  pub put : Put d₀ at (replicate i word) d
+  pub long : length d ≡ length d₀
+
+module _ {word n at : ℕ} where
+  pub same-begins : {d : List ℕ} → Repeated word n at 0 d d
+  same-begins = record { upto = omega arith; put = put-nothing; long = refl }
+
+  module _ {i : ℕ} {d d₀ : List ℕ} (w : Repeated word n at i d d₀) where
+    pub same-room : i < n → at + n ≤ length d₀ → at + i < length d
+    same-room h r = omega (arith, w .long)
+
+    pub same-next : i < n → at + n ≤ length d₀ → Repeated word n at (i + 1) (set d (at + i) word) d₀
+    same-next h r =
+        let l = length-replicate i word in
+        let q : Put d (at + i) (word ∷ []) (set d (at + i) word) = one-store (omega (arith, w .long)) in
+        let p = put-next (w .put) q (omega (arith, l)) (omega arith) in
+        record {
+          upto = omega arith;
+          put = subst (λ (ys : List ℕ). Put d₀ at ys (set d (at + i) word)) (replicate-append-replicate i 1 word) p;
+          long = length-set d (at + i) word ∙ w .long;
+        }
+
+    pub same-ends : n ≤ i → Put d₀ at (replicate n word) d
+    same-ends h = let e : i ≡ n = omega (arith, w .upto) in subst (λ (k : ℕ). Put d₀ at (replicate k word) d) e (w .put)
+
+pub ruleset repeating = (same-begins, same-room, same-next, same-ends)
+
+-- ---- the record
 module _ (m : Record) {d e head : List ℕ} (r : 906 ≤ length d) (t : head ≡ headWords m) (p : Put d 0 head e) where
   headed : Put d 0 (headWords m) e
   headed = subst (λ (ys : List ℕ). Put d 0 ys e) t p
@@ -146,21 +178,39 @@ module _ (m : Record) {d e head : List ℕ} (r : 906 ≤ length d) (t : head ≡
   pub tables-room : 906 ≤ length e
   tables-room = omega (arith, put-long headed (omega arith))
 
-  module _ {f : List ℕ} (h : RecordFits m) (q : Put e 9 (tableWords m) f) where
-    many : length (tableWords m) ≡ 384
-    many = tables-long (m .cues .list) (m .playlist .list) (h .cues .room) (h .plays .room)
+  pub before-put : {f : List ℕ} → RecordFits m → Put e 9 (tableWords m) f → Put d 0 (headWords m ++ tableWords m) f
+  before-put h q = put-next headed q refl (omega (arith, tables-long (m .cues .list) (m .playlist .list) (h .cues .room) (h .plays .room)))
 
-    pub titles-room : 906 ≤ length f
-    titles-room = omega (arith, tables-room, put-long q (omega (arith, tables-room, many)))
+pub ruleset before-titles = (record-typed, tables-room, before-put)
 
-    pub record-put : {g : List ℕ} → Put f 393 (titlesWords (m .titles)) g → g ≡ front (recordWords m) d
-    unfolding recordWords
-    record-put s =
-        let n = titles-long (m .titles) (h .titles .room) in
-        let b = put-next q s (omega (arith, many)) (omega (arith, tables-room, n)) in
-        put-front (put-next headed b refl (omega (arith, many, n, length-append (tableWords m) (titlesWords (m .titles)))))
+-- no titles are 513 zeros, as many as their number
+blank-titles : (n : ℕ) → entryBytes titleWords (replicate n noTitle) ≡ replicate (4 * n) 0
+unfolding entryBytes
+blank-titles zero = refl
+blank-titles (suc n) = ap (λ (ys : List ℕ). 0 ∷ 0 ∷ 0 ∷ 0 ∷ ys) (blank-titles n) ∙ ap (λ (k : ℕ). replicate k 0) four-more
+  where
+    four-more : suc (suc (suc (suc (4 * n)))) ≡ 4 * suc n
+    four-more = omega arith
 
-pub ruleset record-putting = (record-typed, tables-room, titles-room, record-put)
+module _ (m : Record) {d f : List ℕ} (r : 906 ≤ length d) (h : RecordFits m) (p : Put d 0 (headWords m ++ tableWords m) f) where
+  many : length (tableWords m) ≡ 384
+  many = tables-long (m .cues .list) (m .playlist .list) (h .cues .room) (h .plays .room)
+
+  pub titles-room : 906 ≤ length f
+  titles-room = omega (arith, put-long p (omega (arith, many)))
+
+  pub record-put : {g : List ℕ} → Put f 393 (titlesWords (m .titles)) g → g ≡ front (recordWords m) d
+  unfolding recordWords
+  record-put s = put-front (put-next p s (omega (arith, many)) (omega (arith, titles-long (m .titles) (h .titles .room))))
+
+  pub untitled-put : {g : List ℕ} → m .titles ≡ noTitles → Put f 393 (replicate 513 (m .titles .count)) g → g ≡ front (recordWords m) d
+  unfolding titlesWords
+  untitled-put {g} e s = record-put (subst (λ (ys : List ℕ). Put f 393 ys g) zeros s)
+    where
+      zeros : replicate 513 (m .titles .count) ≡ titlesWords (m .titles)
+      zeros = ap (λ (t : Titles). replicate 513 (t .count)) e ∙ sym (ap titlesWords e ∙ ap (λ (ys : List ℕ). 0 ∷ ys) (blank-titles 128))
+
+pub ruleset record-putting = (record-typed, titles-room, record-put, untitled-put)
 
 -- ---- the record taken from words
 pub format-said : (w : List ℕ) {a b c d e : ℕ} → a ≡ word w 0 → b ≡ word w 1 → c ≡ word w 3 → d ≡ word w 4 → e ≡ word w 5

@@ -16,10 +16,11 @@ ghost use mathlib.Core.Path.{_≡_};
 ghost use mathlib.Core.Bool.{true};
 ghost use mathlib.Core.List.{_++_};
 ghost use Prim.Native.Nat.{_+_, _*_, _≤_, _<_};
-ghost use lib.ListN.{length};
+ghost use lib.ListN.{length, replicate};
 ghost use Rattle.little.specs.Writing.{Put, front};
 ghost use Rattle.tables.specs.Bytes.{entryBytes};
-ghost use Rattle.words.specs.Words.{headWords, cueWords, playWords, titleWords, titlesWords, recordWords};
+ghost use Rattle.titles.specs.Titles.{noTitles};
+ghost use Rattle.words.specs.Words.{headWords, cueWords, playWords, titleWords, titlesWords, tableWords, recordWords};
 ghost use Rattle.words.specs.Words.{fieldsFit, formatFrom, cueFrom, cuesFrom, playFrom, entriesFrom, titleFrom, titlesFrom, recordFrom};
 
 // How many words a record has.
@@ -145,20 +146,51 @@ fn put_tables(out: &mut [u32], cues: [Cue; 64], plays: [Play; 64])
     put_plays(out, 201, plays);
 }
 
-// Puts a record from the start of a lent buffer.
-pub fn put_record(out: &mut [u32], made: Record)
+// Puts a word n times from a place on.
+fn put_same(out: &mut [u32], at: usize, n: usize, word: u32)
+    requires { ⌜ at + n ≤ length (now out) ⌝ }
+    ensures buffer { λ _. ⌜ Put (now (out .entry)) at (replicate n word) (now (out .exit)) ⌝ }
+{
+    let mut i = 0;
+    while i < n {
+        out[at + i] = word;
+        i += 1;
+    }
+}
+
+// Puts what stands before the titles.
+fn put_before_titles(out: &mut [u32], made: Record)
     requires { ⌜ 906 ≤ length (now out) ⌝ }
-    ensures buffer { λ _. ⌜ now (out .exit) ≡ front (recordWords made) (now (out .entry)) ⌝ }
+    ensures buffer { λ _. ⌜ Put (now (out .entry)) 0 (headWords made ++ tableWords made) (now (out .exit)) ⌝ }
 {
     let cues = made.cues;
     let playlist = made.playlist;
     let cue_list = cues.list;
     let play_list = playlist.list;
-    let titles = made.titles;
     let head = head_words(made);
     put_words(out, 0, &head);
     put_tables(out, cue_list, play_list);
+}
+
+// Puts a record from the start of a lent buffer.
+pub fn put_record(out: &mut [u32], made: Record)
+    requires { ⌜ 906 ≤ length (now out) ⌝ }
+    ensures buffer { λ _. ⌜ now (out .exit) ≡ front (recordWords made) (now (out .entry)) ⌝ }
+{
+    let titles = made.titles;
+    put_before_titles(out, made);
     put_titles(out, titles);
+}
+
+// The same for a record that has no titles. All 513 words of titles are then what their number is, and the list
+// of them, the largest part of a record, is not touched.
+pub fn put_untitled(out: &mut [u32], made: Record)
+    requires { ⌜ (906 ≤ length (now out)) × (made .titles ≡ noTitles) ⌝ }
+    ensures buffer { λ _. ⌜ now (out .exit) ≡ front (recordWords made) (now (out .entry)) ⌝ }
+{
+    let titles = made.titles;
+    put_before_titles(out, made);
+    put_same(out, 393, 513, titles.count);
 }
 
 // ---- a record taken from words

@@ -1,5 +1,5 @@
 -- Without a list the others' answer is told, else the one with its titles.
-use Rattle.reader.specs.Content.{soundFrom, titlesFrom}
+use Rattle.reader.specs.Content.{soundPlace, titlesPlace}
 use Rattle.reader.proofs.Laws.{spot-same}
 use Rattle.reader.proofs.Titles.{untitled-told, untitled-spot, titled-told}
 use borrow.Author.Needs.{needs}
@@ -12,13 +12,13 @@ returns c =
     let u = c .before .before .before .read-parts .ensures in
     let h = c .before .before .has-list .ensures in
     let t = c .before .if1 .taken in
-    (untitled-told _ _ u h t (o .0), (untitled-spot _ _ u h t soundFrom (o .1 .0), untitled-spot _ _ u h t titlesFrom (o .1 .1)))
+    (untitled-told _ _ u h t (o .0), (untitled-spot _ _ u h t soundPlace (o .1 .0), untitled-spot _ _ u h t titlesPlace (o .1 .1)))
 
 returns-2 : tie.Need-returns-2
 returns-2 c =
     let o = c .opened-by2 .ensures in
     let u = c .before .read-titles .ensures in
-    (titled-told _ _ u (o .0), (spot-same soundFrom _ u (o .1 .0), spot-same titlesFrom _ u (o .1 .1)))
+    (titled-told _ _ u (o .0), (spot-same soundPlace _ u (o .1 .0), spot-same titlesPlace _ u (o .1 .1)))
 
 pub open-parts-spec : {M : Type 1} → statement M
 open-parts-spec =

@@ -7,8 +7,22 @@ use Rattle.titles.proofs.front_of.Tie as tie
 pub front-of-spec : {M : Type 1} → statement M
 front-of-spec =
     tie.close
-    (tie.spec (λ c κs. search (needs, fronting)) (λ c. search (needs, fronting)) (λ c. search (needs, fronting))
-    (λ c κs. search (needs, fronting)) (λ c. search (needs, fronting)) (λ c κs. search (needs, fronting))
-    (λ c κs. search (needs, fronting)) (λ c. search (needs, fronting)) (λ c κs. search (needs, fronting))
-    (λ c κs. search (needs, fronting)) (λ c κs. search (needs, fronting)) (λ c. search (needs, fronting))
+    (tie.spec
+    (λ c κs. search needs)
+    (λ c. search (needs, fronting))
+    (λ c κs. search needs)
+    (λ c. search needs)
+    (λ c. search needs)
+    (λ c κs. search needs)
+    (λ c. search (needs, fronting))
+    (λ c κs. search needs)
+    (λ c κs. search needs)
+    (λ c κs. search needs)
+    (λ c. search (needs, fronting))
+    (λ c κs. search needs)
+    (λ c κs. search needs)
+    (λ c κs. search needs)
+    (λ c. search (needs, fronting))
+    (λ c κs. search needs)
+    (λ c. search needs)
     (λ c. search (needs, fronting)))
