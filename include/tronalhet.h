@@ -19,9 +19,9 @@
 extern "C" {
 #endif
 
-#define TRONALHET_VERSION "0.2.0"
+#define TRONALHET_VERSION "0.3.0"
 #define TRONALHET_VERSION_MAJOR 0
-#define TRONALHET_VERSION_MINOR 2
+#define TRONALHET_VERSION_MINOR 3
 #define TRONALHET_VERSION_PATCH 0
 
 /* The most bytes of a file, and the most samples of a sound that is encoded. */
