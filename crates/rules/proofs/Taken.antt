@@ -1,12 +1,11 @@
--- A record keeps all the rules where its verdict takes it, and only there; its titles play no part. Assumes nothing.
-use mathlib.Core.Path.{_≡_, refl}
+-- A record keeps all the rules where its verdict takes it, and only there. Assumes nothing.
+use mathlib.Core.Path.{_≡_}
 use Rattle.units.specs.declared.BytePlace.{BytePlace}
 use Rattle.units.specs.declared.Verdict.the-variants.{Accepted}
 use Rattle.units.specs.Checks.{AllMet}
 use Rattle.units.proofs.Checks.{all-met, met-all}
-use Rattle.titles.specs.declared.Titles.{Titles}
 use Rattle.rules.specs.declared.Record.{Record}
-use Rattle.rules.specs.Rules.{recordChecks, recordVerdict, withTitles, Writable}
+use Rattle.rules.specs.Rules.{recordChecks, recordVerdict, Writable}
 
 pub all-kept : {m : Record} {n : BytePlace} → AllMet (recordChecks m n) → Writable m n
 unfolding recordChecks AllMet
@@ -21,11 +20,3 @@ record-keeps m n e = all-kept (all-met (recordChecks m n) e)
 
 pub record-taken : {m : Record} {n : BytePlace} → Writable m n → recordVerdict m n ≡ Accepted
 record-taken {m} {n} k = met-all (recordChecks m n) (kept-all k)
-
-module _ (m : Record) (t : Titles) (n : BytePlace) where
-  pub titled-verdict : recordVerdict (withTitles m t) n ≡ recordVerdict m n
-  unfolding recordChecks
-  titled-verdict = refl
-
-  pub titled-keeps : Writable m n → Writable (withTitles m t) n
-  titled-keeps k = record { format = k .format; whole = k .whole; count = k .count; cues = k .cues; plays = k .plays }
