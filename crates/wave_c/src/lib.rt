@@ -132,6 +132,7 @@ fn put_opened(file: &[u8], opened: Opened, out: &mut [u32], texts: &mut [u8]) ->
     if !reader::put_texts(file, spot, end, texts) {
         return number_of(Refusal::OutputTooSmall);
     }
+    // Most files have no list of titles, and so their record has none.
     if riff::there(spot) {
         words::put_record(out, made);
         return 0;
