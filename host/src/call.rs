@@ -164,7 +164,7 @@ when it is whole and on the disk, and takes the place of another only where that
 A refusal is reported by its number; standard error says where it is, what it means, and a way out if there is one.
 ";
 pub const STATUS: &str = "\
-0 done, or nothing to do; 1 to 21 the number of the refusal; 64 a wrong call;
+0 done, or nothing to do, as for 18; 1 to 21 the number of the refusal; 64 a wrong call;
 74 I/O error, explained on standard error.
 ";
 
