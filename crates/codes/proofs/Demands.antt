@@ -6,7 +6,7 @@ use mathlib.Core.List.{List}
 use Prim.Native.Nat.{ℕ, suc, _+_, _<_}
 use native.Mathlib.Omega.{arith}
 use lib.Dec.{T, lit<}
-use lib.ListN.{take, drop, getD}
+use lib.ListN.{drop, getD}
 use lib.Pow.{areBytes}
 use lib.Seq.{getD-take, getD-drop}
 use mir.Syntax.{w8}

@@ -11,10 +11,10 @@ pub fn file_room() -> [u8; 262145]
 }
 
 // Room for the texts of a file's titles: enough for every file.
-pub fn texts_room() -> [u8; titles::MOST_BYTES]
+pub fn texts_room() -> [u8; titles::MOST_TITLE_BYTES]
     ensures long { λ r. ⌜ 32768 ≡ length r ⌝ }
 {
-    [0; titles::MOST_BYTES]
+    [0; titles::MOST_TITLE_BYTES]
 }
 
 // Room for the sound of such a file: a byte holds less than two samples in every format.

@@ -14,14 +14,14 @@ use Rattle.units.specs.Checks.{numberOr}
 use Rattle.rules.specs.declared.Reading.{Reading}
 use Rattle.rules.specs.Rules.{turnedAway}
 use Rattle.reader.specs.Content.{reading, textsIn, readingIn}
-use Rattle.reader.specs.Demands.{Refusing, numberWithin}
+use Rattle.reader.specs.Demands.{Refusing, RoomNumbered, numberWithin}
 use Rattle.reader.specs.Promise.{ReadPromise, OneReading, OneSound}
 use Rattle.reader.proofs.Titles.{read-refused}
 
 -- the number with room for the texts
-within : (s : List ℕ) (room : ℕ) → verdictNumber (readingIn s room .verdict) ≡ numberWithin s room
-unfolding readingIn Refusing
-within s room = by (reading s .verdict) refl
+pub room-numbered : RoomNumbered
+unfolding RoomNumbered readingIn Refusing
+room-numbered s room = by (reading s .verdict) refl
   where
     row : (b : Bool) (v : Verdict) → v ≡ reading s .verdict
         → verdictNumber (cond b (reading s) (turnedAway OutputTooSmall) .verdict) ≡ cond b (verdictNumber v) 14
@@ -41,8 +41,9 @@ within s room = by (reading s .verdict) refl
         ap (λ (x : Reading). verdictNumber (x .verdict)) (sym n) ∙ ap verdictNumber e
 
 pub read-kept : (s d : List ℕ) {r : Reading} {e : List ℕ} → r ≡ readingIn s (length d) → e ≡ holding (r .verdict) (textsIn s) d → ReadPromise s d r e
+unfolding RoomNumbered
 read-kept s d a b =
-    record { answer = a; number = ap (λ (r : Reading). verdictNumber (r .verdict)) a ∙ within s (length d); buffer = b }
+    record { answer = a; number = ap (λ (r : Reading). verdictNumber (r .verdict)) a ∙ room-numbered s (length d); buffer = b }
 
 pub one-reading : OneReading
 unfolding OneReading

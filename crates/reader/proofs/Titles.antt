@@ -1,13 +1,13 @@
 -- The titles of a file in the words of the code: what their list adds to the other chunks; and where it stands, its texts, which are
 -- as long as the record says. Assumes nothing.
 use mathlib.Core.Path.{_≡_, refl, sym, ap, _∙_, subst}
-use mathlib.Core.Bool.{Bool, true, false, not, cond, _&&_}
+use mathlib.Core.Bool.{Bool, true, false, not, cond}
 use mathlib.Core.List.{List, [], _∷_, _++_}
 use Prim.Native.Nat.{ℕ, _≤_, _<_}
 use native.Mathlib.Omega.{arith}
 use lib.Dec.{T, leb}
 use lib.Pow.{areBytes}
-use lib.ListN.{length, length-take, length-drop}
+use lib.ListN.{length}
 use borrow.Author.Tests.{not-true, not-false, lt-leb, le-leb}
 use Rattle.lists.specs.Among.{distinct}
 use Rattle.lists.specs.Every.{every}
@@ -17,15 +17,14 @@ use Rattle.units.specs.declared.Refusal.{Refusal}
 use Rattle.units.specs.declared.Refusal.the-variants.{TitlesWrong, OutputTooSmall}
 use Rattle.units.specs.declared.Verdict.{Verdict}
 use Rattle.units.specs.declared.Verdict.the-variants.{Accepted, Refused}
-use Rattle.units.specs.Checks.{check, decided, andThen, AllMet}
-use Rattle.units.proofs.Checks.{then-decided, all-met}
+use Rattle.units.specs.Checks.{check, decided, andThen}
+use Rattle.units.proofs.Checks.{then-decided}
 use Rattle.riff.specs.declared.Directory.{Directory}
 use Rattle.riff.specs.declared.Spot.{Spot}
 use Rattle.riff.specs.declared.Spot.the-variants.{At, Missing}
-use Rattle.riff.specs.declared.Walked.{Walked}
-use Rattle.riff.specs.declared.Walked.the-variants.{Whole, Stopped}
+use Rattle.riff.specs.declared.Walked.the-variants.{Whole}
 use Rattle.riff.specs.Chunks.{isThere, padLost}
-use Rattle.riff.specs.Walk.{partOf, directoryOf}
+use Rattle.riff.specs.Walk.{partOf}
 use Rattle.riff.proofs.Walking.{whole-limit}
 use Rattle.riff.proofs.Parting.{part-within, part-bytes}
 use Rattle.tables.specs.Cues.{namesIn}
@@ -39,7 +38,7 @@ use Rattle.titles.proofs.Round.{none-in, none-texts, none-titles, none-valid, v
 use Rattle.rules.specs.declared.Record.{Record}
 use Rattle.rules.specs.declared.Reading.{Reading}
 use Rattle.rules.specs.Rules.{ChunkBytes, recordOf, withTitles, chunkChecks, verdictOf, turnedAway, readingBy, judged}
-use Rattle.reader.specs.Content.{Content, contentBy, soundPart, titlesPart, chunksAt, recordAt, titlesValid, chunksChecks, titled, judgedAt, checksAt, verdictAt, contentIn, contentOf, readingOf, reading, spotBy, soundPlace, soundSpot, titlesPlace, titlesSpot, titlesIn, textsIn, readingIn}
+use Rattle.reader.specs.Content.{contentBy, soundPart, titlesPart, chunksAt, recordAt, titlesValid, chunksChecks, titled, judgedAt, contentIn, contentOf, readingOf, reading, spotBy, titlesPlace, titlesSpot, titlesIn, textsIn, readingIn}
 use Rattle.reader.specs.Demands.{Refusing, TextsMost, TitlesTold}
 use Rattle.reader.proofs.Demands.{by-file, refusing}
 use Rattle.reader.proofs.Laws.{spot-same}

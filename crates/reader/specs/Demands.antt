@@ -21,7 +21,7 @@ use Rattle.titles.specs.Titles.{entriesOf, noTitle}
 use Rattle.rules.specs.declared.Record.{Record}
 use Rattle.rules.specs.Rules.{formatValid, factValid, cuesValid, playsValid, blank}
 use Rattle.reader.specs.Content.{formatPart, soundSize, factPart, cuePart, playlistPart, recordAt, titlesValid, contentBy, contentOf}
-use Rattle.reader.specs.Content.{reading, soundSpot, soundIn, titlesIn, textsIn}
+use Rattle.reader.specs.Content.{reading, readingIn, soundSpot, soundIn, titlesIn, textsIn}
 
 -- ---- the number that a file gets, in the order of checks and the numbers of document 01; 0 is taken
 
@@ -48,6 +48,9 @@ ReadNumbered = (s : List ℕ) → verdictNumber (reading s .verdict) ≡ numberG
 -- and then 14, where there is not room for so many bytes of texts
 abbrev pub numberWithin : List ℕ → ℕ → ℕ
 numberWithin s room = numberOr (reading s .verdict) (cond (not (leb (length (textsIn s)) room)) 14 0)
+
+unfoldable pub RoomNumbered : Type 0
+RoomNumbered = (s : List ℕ) (room : ℕ) → verdictNumber (readingIn s room .verdict) ≡ numberWithin s room
 
 -- ---- what it answers
 

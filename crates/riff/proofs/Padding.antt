@@ -9,7 +9,6 @@ use lib.Dec.{eqb}
 use lib.ListN.{length}
 use borrow.Author.Tests.{eqb-true, eqb-false}
 use Rattle.little.proofs.Tests.{tests}
-use Rattle.riff.specs.declared.Pad.{Pad}
 use Rattle.riff.specs.declared.Pad.the-variants.{NotNeeded, There, Absent}
 use Rattle.riff.specs.declared.Place.{Place}
 use Rattle.riff.specs.Chunks.{sizeAt, endAt, padAfter, padSize, padAt, nextAt, placed}

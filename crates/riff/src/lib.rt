@@ -9,7 +9,7 @@ use units::Refusal;
 use units::Verdict;
 ghost use mathlib.Core.Path.{_≡_};
 ghost use Prim.Native.Nat.{_+_, _≤_, min};
-ghost use lib.ListN.{length, take, drop};
+ghost use lib.ListN.{length};
 ghost use Rattle.little.specs.Writing.{Put};
 ghost use Rattle.riff.specs.Chunks.{headVerdict, listKind, kindAt, padAfter, padSize, placeAt, isThere, padLost, spotOf, early, startsAsWaves, waveList, chunkAt, directory, isKept, keepTitles, keep};
 ghost use Rattle.riff.specs.Walk.{refusalOf, walkOf, directoryOf, partOf, bySpot, startOf};
@@ -190,7 +190,7 @@ fn place_at(file: &[u8], at: BytePlace) -> Step
     })
 }
 
-// Where a chunk of some kind was met.
+// Where a chunk of some kind was met; nowhere for a kind of which the walk takes any number.
 fn spot_of(seen: Directory, kind: Kind) -> Spot
     ensures answer { λ r. ⌜ r ≡ spotOf seen kind ⌝ }
 {

@@ -10,7 +10,6 @@ use lib.Dec.{T, eqb, leb}
 use lib.ListN.{length, drop, getD, length-take, length-drop}
 use lib.Seq.{getD-take}
 use borrow.Author.Tests.{leb-true}
-use Rattle.lists.specs.Among.{has}
 use Rattle.lists.proofs.Laws.{and-both, every-at}
 use Rattle.units.specs.declared.Donation.{Donation}
 use Rattle.formats.specs.declared.Format.{Format}

@@ -329,11 +329,11 @@ fn join(
         (now (sound .entry) ++ now (added .entry))) (now (out .entry)) ⌝ }
 {
     let found = titles::find_titles(list, lost);
-    let listed = rules::with_titles(made, found.titles);
-    writer::write_joined(listed, true, list, sound, added, out)
+    let titled = rules::with_titles(made, found.titles);
+    writer::write_joined(titled, true, list, sound, added, out)
 }
 
-// The same of two files, as they were opened.
+// The record of a side with one song more, or the refusal, of two files as they were opened.
 fn grow_files(
     side: &[u8],
     opened: Opened,

@@ -1,13 +1,13 @@
 -- A list that is written says the entries that it was written of: its chunks are taken off its front one after the other, each whole, of
 -- its size and with its pad. Assumes nothing.
 use mathlib.Core.Path.{_≡_, refl, sym, ap, _∙_, subst}
-use mathlib.Core.Bool.{Bool, true, false, cond, _&&_}
+use mathlib.Core.Bool.{Bool, true, false, cond}
 use mathlib.Core.List.{List, [], _∷_, _++_, map, append-assoc}
 use Prim.Native.Nat.{ℕ, zero, suc, _+_, _-_, _%_, _≤_, _<_}
 use native.Mathlib.Omega.{arith}
-use lib.Dec.{ltb, leb, eqb}
+use lib.Dec.{eqb}
 use lib.ListN.{length, take, drop, getD, length-append}
-use lib.Seq.{take-at, drop-at, drop-drop}
+use lib.Seq.{take-at, drop-at}
 use borrow.Author.Tests.{lt-ltb, le-ltb, le-leb, eqb-true, eqb-false}
 use Rattle.little.specs.Numbers.{numberAt, bytesOf}
 use Rattle.little.specs.Same.{sameBytes}
@@ -17,9 +17,8 @@ use Rattle.codes.specs.declared.Code.{Code}
 use Rattle.codes.specs.declared.Code.the-variants as code
 use Rattle.codes.proofs.Bytes.{length-code}
 use Rattle.codes.proofs.Laws.{laid-code}
-use Rattle.riff.specs.declared.Pad.{Pad}
 use Rattle.riff.specs.declared.Pad.the-variants.{NotNeeded, There, Absent}
-use Rattle.riff.specs.Chunks.{sizeAt, endAt, padAfter, padSize, padAt, nextAt, passes}
+use Rattle.riff.specs.Chunks.{sizeAt, padAfter, padAt, nextAt, passes}
 use Rattle.riff.specs.Laying.{piece, padBytes, pieceBytes, bodyBytes}
 use Rattle.riff.proofs.Laying.{length-body}
 use Rattle.riff.proofs.Padding.{next-place}
@@ -27,7 +26,7 @@ use Rattle.riff.proofs.Found.{behind, number-laid, head-parts, data-there, size
 use Rattle.titles.specs.Titles.{Entry, noEntry}
 use Rattle.titles.specs.Lists.{frontKind, frontEntry, frontRest, withEntry, entriesBy, entriesIn, padFits, sizeFits, frontFits, tilesBy, tiles, listForm}
 use Rattle.titles.specs.Writing.{titleCode, pieceOf, listBytes}
-use Rattle.titles.proofs.Walking.{entries-one, entries-none, tiles-one, tiles-none, next-within}
+use Rattle.titles.proofs.Walking.{entries-one, entries-none, tiles-one, tiles-none}
 
 -- the numbers of an entry fit the fields that they are written to, the size of its chunk among them
 pub record EntryFits (e : Entry) : Type 0 where

@@ -1,28 +1,27 @@
 -- A list of a file in the words of the code: whether it is valid, its titles, and what is known of those of a list that is; and whether
 -- titles may be written. Assumes nothing.
-use mathlib.Core.Path.{_≡_, refl, sym, ap, _∙_, subst}
-use mathlib.Core.Bool.{Bool, true, false, not, cond, _&&_, and-false}
-use mathlib.Core.List.{List, [], _∷_, _++_, map}
+use mathlib.Core.Path.{_≡_, sym, ap, _∙_, subst}
+use mathlib.Core.Bool.{Bool, true, false, not, _&&_, and-false}
+use mathlib.Core.List.{List, _++_}
 use Prim.Native.Nat.{ℕ, _+_, _-_, _≤_, _<_}
 use native.Mathlib.Omega.{arith}
 use lib.Dec.{ltb, leb, eqb}
-use lib.ListN.{length, take, getD, replicate, length-append, length-replicate}
-use lib.Seq.{take-at, length-take-le, getD-take}
+use lib.ListN.{length, take, getD, replicate}
+use lib.Seq.{length-take-le, getD-take}
 use borrow.Author.Tests.{not-true, not-false, ltb-true, leb-true, lt-leb, le-leb, eqb-true}
 use Rattle.lists.specs.Among.{indexIn, has, distinct}
 use Rattle.lists.proofs.Laws.{and-both, every-at}
 use Rattle.little.specs.Writing.{front}
-use Rattle.units.specs.Refusals.{fileLimit}
 use Rattle.tables.specs.declared.Cues.{Cues}
 use Rattle.tables.specs.Cues.{namesIn}
 use Rattle.titles.specs.declared.Title.{Title}
 use Rattle.titles.specs.declared.Titles.{Titles}
 use Rattle.titles.specs.declared.Found.{Found}
 use Rattle.titles.specs.declared.ListRead.{ListRead}
-use Rattle.titles.specs.Titles.{Entry, noEntry, entryIn, firstEntries, entriesOf, closed, entryRule, eachRule, namesBy, entriesRule, textsOf, placedFrom, noTitle, noTitles, tableOf, tableFor, movedInTurn}
-use Rattle.titles.specs.Lists.{entriesIn, tiles, listForm, listValid, titlesOf, listRead, Stands, FoundIn}
-use Rattle.titles.specs.Writing.{textsInRow, titlesRight, Short}
-use Rattle.titles.proofs.Entries.{entries-long, entry-at}
+use Rattle.titles.specs.Titles.{Entry, noEntry, entryIn, firstEntries, entriesOf, closed, entryRule, eachRule, namesBy, entriesRule, textsOf, placedFrom, noTitle, noTitles, tableOf, movedInTurn}
+use Rattle.titles.specs.Lists.{entriesIn, tiles, listForm, listValid, listRead, Stands, FoundIn}
+use Rattle.titles.specs.Writing.{textsInRow, titlesRight}
+use Rattle.titles.proofs.Entries.{entry-at}
 use Rattle.titles.proofs.Texts.{turn-placed, placed-long}
 
 -- ---- what keeping the rule says of each entry

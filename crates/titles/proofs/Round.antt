@@ -7,7 +7,7 @@ use Prim.Native.Nat.{ℕ, zero, suc, _+_, _-_, _*_, _%_, _≤_, _<_, min}
 use native.Mathlib.Omega.{arith}
 use lib.Dec.{T, ltb, leb, lit<}
 use lib.Pow.{areBytes}
-use lib.ListN.{length, take, drop, getD, replicate, length-append, length-replicate, length-drop, length-take, drop-of-length-le}
+use lib.ListN.{length, take, drop, getD, replicate, length-append, length-replicate, length-drop, drop-of-length-le}
 use lib.Seq.{take-at, length-take-le, getD-take}
 use borrow.Author.Tests.{lt-ltb, le-leb, leb-true, leb-false, ltb-true}
 use Rattle.lists.specs.Among.{indexIn, has, distinct}
@@ -20,7 +20,7 @@ use Rattle.codes.specs.Codes.{codeBytes}
 use Rattle.codes.specs.declared.Code.the-variants as code
 use Rattle.codes.proofs.Bytes.{length-code, code-bytes}
 use Rattle.tables.specs.Bytes.{entryBytes}
-use Rattle.riff.specs.Chunks.{sizeAt, endAt, nextAt, passes}
+use Rattle.riff.specs.Chunks.{sizeAt, nextAt, passes}
 use Rattle.riff.specs.Laying.{piece, bodyBytes}
 use Rattle.riff.proofs.Laying.{length-body}
 use Rattle.riff.proofs.Bytes.{body-bytes}
@@ -28,7 +28,7 @@ use Rattle.riff.proofs.Padding.{next-place}
 use Rattle.titles.specs.declared.Title.{Title}
 use Rattle.titles.specs.declared.Titles.{Titles}
 use Rattle.titles.specs.Titles.{Entry, noEntry, entryIn, firstEntries, entriesOf, closed, entryRule, eachRule, namesBy, entriesRule, textOf, textsOf, placedFrom, noTitle, noTitles, tableOf, tableFor, textsEnd}
-use Rattle.titles.specs.Lists.{frontKind, frontEntry, frontRest, withEntry, entriesBy, entriesIn, frontFits, tilesBy, tiles, listForm, listValid, titlesOf, Stands}
+use Rattle.titles.specs.Lists.{frontKind, frontEntry, frontRest, entriesBy, entriesIn, frontFits, tilesBy, tiles, listForm, listValid, titlesOf, Stands}
 use Rattle.titles.specs.Writing.{titleCode, pieceOf, listBytes, textsInRow, titlesRight, titlesKept, TitlesFit, Short, listPart, Sayable}
 use Rattle.titles.proofs.Entries.{entries-long, entry-at}
 use Rattle.titles.proofs.Walking.{title-size, fits-all, within, entries-none}

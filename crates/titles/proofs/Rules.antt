@@ -1,13 +1,13 @@
 -- The rule on titles in the words of the code: a text, a title, all titles, and the cues that those of a kind name. Assumes nothing.
 use mathlib.Core.Path.{_≡_, refl, sym, ap, _∙_}
-use mathlib.Core.Bool.{Bool, true, false, not, cond, _&&_, and-false}
+use mathlib.Core.Bool.{Bool, true, false, not, cond, and-false}
 use mathlib.Core.List.{List, [], _∷_, _++_, map, append-nil}
-use Prim.Native.Nat.{ℕ, zero, suc, _+_, _-_, _≤_, _<_}
+use Prim.Native.Nat.{ℕ, suc, _+_, _-_, _≤_, _<_}
 use native.Mathlib.Numerals.{add-one}
 use native.Mathlib.Omega.{arith}
 use lib.Dec.{ltb, leb, eqb}
 use lib.ListN.{length, take, drop, getD, set, replicate, drop-of-length-le, length-replicate, length-append}
-use lib.Seq.{drop-cons, set-at, append-snoc, take-at, length-take-le, getD-take}
+use lib.Seq.{drop-cons, set-at, append-snoc, take-at}
 use borrow.Author.Tests.{lt-ltb, le-ltb, lt-leb, le-leb, leb-true, eq-eqb, ne-eqb, not-true, not-false}
 use Rattle.lists.specs.Among.{indexIn, has, distinct}
 use Rattle.lists.specs.Every.{every}
@@ -19,7 +19,7 @@ use Rattle.titles.specs.declared.Title.{Title}
 use Rattle.titles.specs.declared.Titles.{Titles}
 use Rattle.titles.specs.declared.Found.{Found}
 use Rattle.titles.specs.declared.ListRead.{ListRead}
-use Rattle.titles.specs.Titles.{Entry, noEntry, entryIn, firstEntries, entriesOf, closed, entryRule, eachRule, namesBy, entriesRule, noTitle, noTitles}
+use Rattle.titles.specs.Titles.{Entry, noEntry, entryIn, firstEntries, closed, entryRule, eachRule, namesBy, entriesRule, noTitle, noTitles}
 use Rattle.titles.proofs.Entries.{entries-long, entry-at}
 
 -- ---- a text: the place of its first zero

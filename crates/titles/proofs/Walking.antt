@@ -6,13 +6,12 @@ use mathlib.Core.List.{List, [], _∷_, _++_, map, append-nil, map-append}
 use Prim.Native.Nat.{ℕ, zero, suc, _+_, _-_, _≤_, _<_}
 use native.Mathlib.Omega.{arith}
 use lib.Dec.{ltb, leb}
-use lib.ListN.{length, take, drop, getD, set, replicate, length-append, length-map, length-drop, length-take, length-replicate, drop-of-length-le}
+use lib.ListN.{length, take, drop, getD, set, replicate, length-append, length-map, length-drop, length-replicate, drop-of-length-le}
 use mir.Syntax.{w64}
 use mir.Val.{Fits}
 use lib.Seq.{set-at, append-snoc, drop-drop, take-all, take-at, getD-take, length-take-le}
-use borrow.Author.Tests.{lt-ltb, le-ltb, lt-leb, le-leb, leb-true, ltb-true, ltb-false, not-true, not-false}
+use borrow.Author.Tests.{lt-ltb, le-ltb, lt-leb, le-leb, leb-true, ltb-false, not-true, not-false}
 use Rattle.little.specs.Numbers.{numberIn, numberAt}
-use Rattle.little.proofs.Tests.{tests}
 use Rattle.lists.proofs.Laws.{and-both}
 use Rattle.codes.specs.Codes.{isAt}
 use Rattle.codes.specs.declared.Code.the-variants.{Label, Note}
@@ -21,11 +20,10 @@ use Rattle.riff.specs.declared.Pad.{Pad}
 use Rattle.riff.specs.Chunks.{sizeAt, endAt, padAfter, padSize, padAt, nextAt, passes}
 use Rattle.riff.proofs.Padding.{next-place}
 use Rattle.titles.specs.declared.Title.{Title}
-use Rattle.titles.specs.declared.Titles.{Titles}
 use Rattle.titles.specs.declared.Front.{Front}
 use Rattle.titles.specs.declared.Found.{Found}
-use Rattle.titles.specs.Titles.{Entry, entryIn, firstEntries, entriesOf, noTitle, noTitles}
-use Rattle.titles.specs.Lists.{frontKind, frontEntry, frontRest, withEntry, entriesBy, entriesIn, padFits, sizeFits, frontFits, tilesBy, tiles, listForm, SaysAt, Stands, FoundIn, noFront, frontOf}
+use Rattle.titles.specs.Titles.{Entry, entryIn, firstEntries, noTitle, noTitles}
+use Rattle.titles.specs.Lists.{frontKind, frontEntry, frontRest, withEntry, entriesBy, entriesIn, padFits, sizeFits, frontFits, tilesBy, tiles, listForm, SaysAt, FoundIn, noFront, frontOf}
 
 -- ---- the chunk at the front
 module _ (l : List ℕ) where

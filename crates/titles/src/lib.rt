@@ -29,7 +29,7 @@ ghost use Rattle.titles.specs.Writing.{titleCode, chunkOf, listBytes, te
 pub const MOST: u32 = 128;
 
 // The most bytes of their texts: room for those of every file. Each has 256 at most, its zero among them.
-pub const MOST_BYTES: usize = 32768;
+pub const MOST_TITLE_BYTES: usize = 32768;
 
 // The kinds of a title.
 pub const LABEL: u32 = 0;

@@ -43,7 +43,7 @@ pub use titles::Titles;
 pub use titles::LABEL;
 pub use titles::NOTE;
 // Room for the texts of every file.
-pub use titles::MOST_BYTES;
+pub use titles::MOST_TITLE_BYTES;
 // Format, frames, cues, playlist and titles.
 pub use rules::Record;
 
