@@ -1069,6 +1069,23 @@ static void check_full_side(void)
     CHECK(buffers_are_untouched());
 }
 
+/* With a cue the file has just the limit's length; a label of it, 26 bytes with its list, is too much. The file lends
+ * its bytes as sound, and the record is that of a song as long as the limit. */
+static void check_too_long_with_titles(const uint8_t *file, uint32_t *record)
+{
+    const size_t bytes = TRONALHET_MOST_BYTES - 80;
+    const uint8_t text = 0;
+    record[6] = 536870872;
+    record[7] = 1;
+    CHECK(tronalhet_write(record, WORDS, &text, 1, file, bytes, NULL, 0).refusal == 14);
+    record[393] = 1;
+    CHECK(tronalhet_write(record, WORDS, &text, 1, file, bytes, NULL, 0).refusal == 1);
+    record[394] = 2;
+    CHECK(tronalhet_write(record, WORDS, &text, 1, file, bytes, NULL, 0).refusal == 21);
+    record[8] = 1;
+    CHECK(tronalhet_write(record, WORDS, &text, 1, file, bytes, NULL, 0).refusal == 13);
+}
+
 /* The size limit: one byte, or one sample, past it is refused by its length alone, before a lack of room.
  * The memory is only reserved: no function looks at the sound of a file that it refuses by its length. */
 static void check_too_long(void)
@@ -1098,17 +1115,7 @@ static void check_too_long(void)
     record[6]++;
     CHECK(write_file(record, WORDS, file, limit - 42, NULL, 0).refusal == 1);
 
-    /* With a cue the file has just the limit's length; a label of it, 26 bytes with its list, is too much. */
-    const uint8_t text = 0;
-    record[6] = 536870872;
-    record[7] = 1;
-    CHECK(tronalhet_write(record, WORDS, &text, 1, file, limit - 80, NULL, 0).refusal == 14);
-    record[393] = 1;
-    CHECK(tronalhet_write(record, WORDS, &text, 1, file, limit - 80, NULL, 0).refusal == 1);
-    record[394] = 2;
-    CHECK(tronalhet_write(record, WORDS, &text, 1, file, limit - 80, NULL, 0).refusal == 21);
-    record[8] = 1;
-    CHECK(tronalhet_write(record, WORDS, &text, 1, file, limit - 80, NULL, 0).refusal == 13);
+    check_too_long_with_titles(file, record);
 
     /* The longest file without its pad, 8 bits a sample: with the pad it is as long as is accepted. */
     static const uint8_t eight_bits[8] = {0x40, 0x1F, 0, 0, 1, 0, 8, 0};

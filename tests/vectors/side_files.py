@@ -533,16 +533,8 @@ def all_at_once():
         yield adding(label, said, *asks)
 
 
-def two_by_two():
-    """Two faults at once: the earlier one decides."""
-    wrong, old = wave(fmt(), data(4)), side((7, 2))
-    half, silent, eight = wave(fmt(), data(3)), song(0, bits=8), song(name=7, bits=8)
-    yield adding('half a frame, and no side', 10, wrong, half)
-    yield adding('half a frame, and a side that is refused', 10, b'', half)
-    yield adding('a song and a side that are refused', 2, half, b'RIFX' + song()[4:])
-    yield adding('a song of no bytes, and no side', 1, wrong, b'')
-    yield adding('a wrong playlist, and no side', 13, wrong, wave(fmt(), plst(entry(7, 1)), data(4)))
-    # The list is wrong, as there are no cues.
+def with_wrong_lists(wrong, old, eight):
+    """Two faults at once, one of them a wrong list of titles; it is wrong, as there are no cues."""
     listed = adtl(labl(7, b'Song'))
     untrue = wave(fmt(), listed, data(4))
     yield adding('a wrong playlist and a wrong list, and no side', 13, wrong,
@@ -554,6 +546,18 @@ def two_by_two():
     yield adding('a wrong list without frames', 21, old, wave(fmt(), listed, data(0)))
     yield adding('a wrong list of a listed number, over the limit, no room', 21, old, untrue, 7, 0, 0)
     yield adding('a side with a wrong list, and a song in 8 bits', 19, wave(fmt(), listed, data(0)), eight)
+
+
+def two_by_two():
+    """Two faults at once: the earlier one decides."""
+    wrong, old = wave(fmt(), data(4)), side((7, 2))
+    half, silent, eight = wave(fmt(), data(3)), song(0, bits=8), song(name=7, bits=8)
+    yield adding('half a frame, and no side', 10, wrong, half)
+    yield adding('half a frame, and a side that is refused', 10, b'', half)
+    yield adding('a song and a side that are refused', 2, half, b'RIFX' + song()[4:])
+    yield adding('a song of no bytes, and no side', 1, wrong, b'')
+    yield adding('a wrong playlist, and no side', 13, wrong, wave(fmt(), plst(entry(7, 1)), data(4)))
+    yield from with_wrong_lists(wrong, old, eight)
     yield adding('a wrong cue in a song without frames', 12, old, wave(fmt(), cue(point(7, 0)), data(0)))
     yield adding('a song that is refused, in 8 bits', 11, old, wave(fmt(bits=8), chunk(b'fact'), data(4)))
     yield adding('half a frame of a listed number', 10, old, half, 7)
