@@ -5,7 +5,8 @@ use crate::shown::{print, Json};
 use crate::stop::{shown, Stop};
 use crate::{eprint, TROUBLE};
 use std::ffi::OsStr;
-use tronalhet::places::{LeftOut, Place};
+use std::fmt::Display;
+use tronalhet::places::{Left, LeftOut, Place};
 use tronalhet::Refusal;
 
 /// What was done: lines for people, the same for scripts, and what a person should know besides.
@@ -58,20 +59,26 @@ pub fn text(name: &OsStr) -> Json {
     Json::Text(name.to_string_lossy().into())
 }
 
-fn kind_in_words(LeftOut { code, in_titles, count }: &LeftOut) -> String {
-    let within = if *in_titles { " of the list of titles" } else { "" };
-    match count {
-        1 => format!("chunk '{code}'{within}"),
-        _ => format!("{count} chunks '{code}'{within}"),
+/// What is left out, for people. A file that is accepted has at most one list of titles.
+fn kind_in_words(LeftOut { kind, count }: &LeftOut) -> String {
+    let many = |what: &str| if *count == 1 { what.to_string() } else { format!("{count} {what}s") };
+    match kind {
+        Left::List(code) if &code.0 == b"adtl" => "the list of titles".into(),
+        Left::List(code) => format!("{} '{code}'", many("list")),
+        Left::Chunk(code) => format!("{} '{code}'", many("chunk")),
+        Left::InTitles(code) => format!("{} '{code}' of the list of titles", many("chunk")),
     }
 }
 
-fn kind_for_scripts(file: &OsStr, kind: &LeftOut) -> Json {
-    let mut fields = vec![("file", text(file)), ("chunk", Json::Text(kind.code.to_string()))];
-    if kind.in_titles {
-        fields.push(("list", Json::Text("adtl".into())));
+fn kind_for_scripts(file: &OsStr, LeftOut { kind, count }: &LeftOut) -> Json {
+    let named = |name, code: &dyn Display| (name, Json::Text(code.to_string()));
+    let mut fields = vec![("file", text(file))];
+    match kind {
+        Left::Chunk(code) => fields.push(named("chunk", code)),
+        Left::List(code) => fields.extend([named("chunk", &"LIST"), named("type", code)]),
+        Left::InTitles(code) => fields.extend([named("chunk", code), named("list", &"adtl")]),
     }
-    fields.push(("count", Json::Number(kind.count as u64)));
+    fields.push(("count", Json::Number(*count as u64)));
     Json::Object(fields)
 }
 

@@ -140,8 +140,9 @@ pub const COMMANDS: &[Command] = &[
         ],
         about: "Gives a song of a side its title: TEXT is the label of its cue. It takes the place of the old one.",
         more:
-            "SIDE may be any WAVE file with cues. A text has at most 255 bytes, which are stored as they are given;\n\
-               one that begins with - comes after --. list --json shows all titles.",
+            "SIDE may be any WAVE file with cues. A text has at most 255 bytes, which are stored as they are given.\n\
+               A TEXT that begins with - comes after --; a note that is itself an option is given as --note=TEXT.\n\
+               list --json shows all titles.",
     },
     Command {
         name: "new-side",
@@ -161,6 +162,7 @@ pub const COMMANDS: &[Command] = &[
 pub const FILES: &str = "\
 A file has at most 1,073,741,824 bytes. For a file that is read, - is standard input. A new file gets its name only
 when it is whole and on the disk, and takes the place of another only where that is SIDE, or with --replace.
+Chunks of a file that are left out of the new one are named on standard error.
 A refusal is reported by its number; standard error says where it is, what it means, and a way out if there is one.
 ";
 pub const STATUS: &str = "\
@@ -194,6 +196,12 @@ impl Command {
             write!(usage, " {open}{}{close}", choice.usage()).expect("a text can be written to");
         }
         usage
+    }
+
+    /// The option that is written so, if there is one.
+    fn choice(&self, written: &[u8]) -> Option<&'static Choice> {
+        let name = written.strip_prefix(b"--")?;
+        self.options.iter().find(|choice| choice.name.as_bytes() == name)
     }
 
     fn help(&self) -> String {
@@ -347,11 +355,8 @@ fn take_option<'a>(
     word: &OsStr,
     rest: &mut impl Iterator<Item = &'a OsString>,
 ) -> Result<(), String> {
-    let bytes = word.as_bytes();
-    let split = bytes.iter().position(|byte| *byte == b'=');
-    let (name, after) = (&bytes[..split.unwrap_or(bytes.len())], split.map(|place| &bytes[place + 1..]));
-    let choice = command.options.iter().find(|choice| name.strip_prefix(b"--") == Some(choice.name.as_bytes()));
-    let choice = choice.ok_or_else(|| no_option(command, OsStr::from_bytes(name)))?;
+    let (name, after) = parted(word);
+    let choice = command.choice(name).ok_or_else(|| no_option(command, OsStr::from_bytes(name)))?;
     let kind = match (choice.takes, after) {
         (Takes::Nothing, Some(_)) => return Err(format!("--{} takes no value", choice.name)),
         (Takes::Nothing, None) => {
@@ -360,8 +365,10 @@ fn take_option<'a>(
         }
         (Takes::Number(kind, _) | Takes::File(kind) | Takes::Text(kind), _) => kind,
     };
-    let value = after.map(|bytes| OsStr::from_bytes(bytes).to_os_string()).or_else(|| rest.next().cloned());
-    let value = value.ok_or_else(|| format!("--{} wants {kind}", choice.name))?;
+    let value = match after {
+        Some(bytes) => OsStr::from_bytes(bytes).to_os_string(),
+        None => next_value(command, choice, kind, rest.next())?,
+    };
     let twice = match choice.takes {
         Takes::Number(_, most) => call.numbers.insert(choice.name, whole_number(choice.name, &value, most)?).is_some(),
         Takes::Text(_) => call.texts.insert(choice.name, value).is_some(),
@@ -372,6 +379,27 @@ fn take_option<'a>(
     } else {
         Ok(())
     }
+}
+
+/// What stands in a word before the first `=`, and what behind it.
+fn parted(word: &OsStr) -> (&[u8], Option<&[u8]>) {
+    let bytes = word.as_bytes();
+    match bytes.iter().position(|byte| *byte == b'=') {
+        Some(place) => (&bytes[..place], Some(&bytes[place + 1..])),
+        None => (bytes, None),
+    }
+}
+
+/// The word after an option as its value. One that is an option itself was hardly meant as that.
+fn next_value(command: &Command, choice: &Choice, kind: &str, word: Option<&OsString>) -> Result<OsString, String> {
+    let name = choice.name;
+    let word = word.ok_or_else(|| format!("--{name} wants {kind}"))?;
+    if command.choice(parted(word).0).is_some() {
+        let option = given(word);
+        let way_out = format!("if it is meant, write --{name}={option}");
+        return Err(format!("--{name} wants {kind}, and {option} is an option; {way_out}"));
+    }
+    Ok(word.clone())
 }
 
 /// An option that a command does not have. One with a single dash may be meant as the name of a file.
@@ -396,7 +424,8 @@ fn complete(command: &Command, call: &Call) -> Result<(), String> {
         return Err(format!("{} is missing", command.words[given]));
     }
     if given > most && command.last != Last::OnceOrMore {
-        return Err(too_many(&call.words[most]));
+        let hint = if command.name == "title" { "; a title of several words is put in quotes" } else { "" };
+        return Err(format!("{}{hint}", too_many(&call.words[most])));
     }
     let missing = command.options.iter().find(|choice| choice.needed && !call.numbers.contains_key(choice.name));
     if let Some(choice) = missing {
@@ -493,7 +522,7 @@ mod tests {
     fn a_text_is_taken_as_it_is() {
         let [label, note, both] = [
             call(&["title", "--number=7", "side", "-"]),
-            call(&["title", "side", "--note", "--remove", "--number", "7"]),
+            call(&["title", "side", "--note=--remove", "--number", "7"]),
             call(&["title", "--note=a=b", "--number=7", "side", "--", "--note"]),
         ];
         assert_eq!((label.words, label.texts.len()), (vec!["side".into(), "-".into()], 0));
@@ -516,10 +545,26 @@ mod tests {
             let what = of_seven(&[&["side", "--remove"], more].concat());
             assert_eq!(what, "--remove removes both titles, so none can be set with it");
         }
-        assert_eq!(of_seven(&["side", "text", "more"]), "'more' is one word too many");
+        let quotes = "'more' is one word too many; a title of several words is put in quotes";
+        assert_eq!(of_seven(&["side", "text", "more"]), quotes);
         assert_eq!(of_seven(&["side", "--note"]), "--note wants TEXT");
         assert_eq!(of_seven(&["side", "--note=a", "--note=a"]), "--note is there twice");
         assert_eq!(of_seven(&["-", "text"]), "the new file must have a name, and - has none");
+    }
+
+    #[test]
+    fn an_option_is_no_value_of_another() {
+        let out = ["add", "side", "song", "--number=7", "--limit=9", "--out", "--backup"];
+        let taken_for = |name, kind, option| {
+            format!("--{name} wants {kind}, and {option} is an option; if it is meant, write --{name}={option}")
+        };
+        assert_eq!(wrong(&out), taken_for("out", "FILE", "--backup"));
+        assert_eq!(wrong(&["title", "side", "--number=7", "--note", "--json"]), taken_for("note", "TEXT", "--json"));
+        assert_eq!(wrong(&["encode", "a", "b", "--align", "--json"]), taken_for("align", "N", "--json"));
+        assert_eq!(wrong(&["title", "side", "--note", "--number=7"]), taken_for("note", "TEXT", "--number=7"));
+        for note in ["--out", "--=", "--", "-", "--jso", "json=", "-json"] {
+            assert_eq!(call(&["title", "side", "--number=7", "--note", note]).text("note"), Some(note.as_bytes()));
+        }
     }
 
     #[test]

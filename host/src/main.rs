@@ -39,7 +39,8 @@ fn main() -> ExitCode {
 
 /// A line on standard error; where that cannot be written, it can be reported nowhere.
 fn eprint_after(word: &str, line: &str) {
-    let _ = writeln!(std::io::stderr(), "{word}: {line}");
+    // At once, so that the lines of two runs do not mix.
+    let _ = std::io::stderr().write_all(format!("{word}: {line}\n").as_bytes());
 }
 
 /// The same under the command's own name.

@@ -24,7 +24,7 @@ mod way_out;
 
 pub use adding::{of_adding, way_out_of_adding, Which};
 pub use chunks::Code;
-pub use left_out::{left_out, Kept, LeftOut};
+pub use left_out::{left_out, Kept, Left, LeftOut};
 pub use lines::is_plain;
 pub use way_out::way_out;
 

@@ -113,7 +113,8 @@ OPTIONS = {'list': [], 'check': [], 'decode': [], 'encode': ['--align'], 'add': 
 
 
 def called_wrongly():
-    """Words that are missing or too many; options that are unknown, twice or without a value; - that is written to."""
+    """Words that are missing or too many; options that are unknown, twice, without a value or with another option for
+    it; - that is written to."""
     for words in ([], ['sing'], [''], ['List'], ['-x'], ['--json'], ['--json', 'list', 'x'], ['--', 'list', 'x']):
         wrongly(words, '|'.join(CALLS))
     for name, call in CALLS.items():
@@ -132,10 +133,12 @@ def called_wrongly():
         wrongly(['new-side', *[word for word in CALLS['new-side'] if not word.startswith(option)]])
     for words in (['side.wav', 'Song'], ['side.wav', '--number=7'], ['side.wav', '--number=7', '--remove', 'Song'],
                   ['side.wav', '--number=7', '--remove', '--note=a'], ['side.wav', '--number=7', '--remove=a'],
+                  ['side.wav', '--number=7', '--note', '--backup'], ['side.wav', '--number=7', '--note', '--number=8'],
                   ['-', 'Song', '--number=7'], ['-', '--remove', '--number=7']):
         wrongly(['title', *words])
     for words in (['add', '-', '-', *ADDED, '--out=new.wav'], ['add', '-', 'song.wav', *ADDED], ['decode', '-', '-'],
                   ['add', 'side.wav', 'song.wav', *ADDED, '--out=-'], ['decode', 'song.wav', '-'],
+                  ['add', 'side.wav', 'song.wav', *ADDED, '--out', '--backup'],
                   ['encode', 'song.wav', '-'], ['new-side', '-', *NEW], ['check', '-', 'song.wav', '-']):
         wrongly(words)
 

@@ -68,21 +68,24 @@ def cut(about):
 
 
 def not_kept(file, kept):
-    """The chunks of a file that the new one does not have, each as its code and whether it is in the list of titles."""
+    """What a file has that the new one does not have: the code of a chunk or the type of a list, what that is, and
+    whether it is in the list of titles."""
     lists = {at: in_list(file, at, end)[0] for at, end in title_lists(file)}
-    for code, at, _ in walked(file)[0]:
-        inner = [code for code, _, _ in lists.get(at, [])]
-        if kept == KNOWN and any(code in TITLES for code in inner):
-            yield from ((code, True) for code in inner if code not in TITLES)
+    for code, at, size in walked(file)[0]:
+        if kept == KNOWN and at in lists:
+            yield from ((code, 'chunk', True) for code, _, _ in lists[at] if code not in TITLES)
+        elif code == b'LIST' and size >= 4:
+            yield file[at + 8:at + 12], 'list', False
         elif code not in kept:
-            yield code, False
+            yield code, 'chunk', False
 
 
 def left_out(name, file, kept):
     """The line that names the chunks of a file that the new one does not have; none where there are none."""
     counted = collections.Counter(not_kept(file, kept))
-    words = [(f"chunk '{escaped(code)}'" if count == 1 else f"{count} chunks '{escaped(code)}'")
-             + (' of the list of titles' if inner else '') for (code, inner), count in [*counted.items()][:20]]
+    words = ['the list of titles' if (code, what) == (b'adtl', 'list') else
+             (f"{what} '{escaped(code)}'" if count == 1 else f"{count} {what}s '{escaped(code)}'")
+             + (' of the list of titles' if inner else '') for (code, what, inner), count in [*counted.items()][:20]]
     return [f'tronalhet: {name}: left out: {", ".join(words)}'] if words else []
 
 

@@ -70,11 +70,12 @@ def other_sounds():
                               (['encode', 'song.wav', 'new.wav'], OF_SOUND, answer(second_command.encode, song, 1024))):
         does(f'{call[0]}, chunks that are left out', call, {'song.wav': song}, made,
              remarks=left_out('song.wav', song, known))
-        tables = [('cue ', 1), ('plst', 1)] if known == OF_SOUND else []
+        titles, tables = [('LIST', 'adtl', 1)], [('cue ', None, 1), ('plst', None, 1)]
+        last = ('\\x01\\"\\n\\\\', None, 1)
         tells(f'{call[0]}, chunks that are left out, for scripts', call, {'song.wav': song},
-              (0, [('song.wav', code, count) for code, count in
-                   [('LIST', 2), ('bext', 1), ('\\x01\\"\\n\\\\', 1), *tables]]),
-              lambda told: [(one['file'], one['chunk'], one['count']) for one in told['left_out']],
+              (0, [('song.wav', *one) for one in [('LIST', 'INFO', 1), ('bext', None, 1)]
+                   + ([last] if known == KNOWN else [*titles, last, *tables])]),
+              lambda told: [(one['file'], one['chunk'], one.get('type'), one['count']) for one in told['left_out']],
               {'new.wav': made[1]})
 
 

@@ -60,7 +60,8 @@ def sets(label, file, number, one=None, two=None, words=(), out='side.wav', rema
     titles = changed(second_reader.titles(file), number, texts)
     own = [title for title in titles if title[1] == number]
     made = with_titles(file, titles)
-    call = ['title', 'side.wav', '--number', number, *([] if two is None else ['--note', two]),
+    note = [] if two is None else [f'--note={two}'] if two.startswith('--') else ['--note', two]
+    call = ['title', 'side.wav', '--number', number, *note,
             *(['--remove'] if one is two is None else []), *words, *([] if one is None else ['--', one])]
     lines = [f'cue {number}', *(f'{("label", "note")[kind]} {on_line(text[:-1])}' for kind, _, text in own)]
     files = {out: file, **({} if out == 'side.wav' else {'side.wav': out})}
@@ -205,7 +206,7 @@ def carried():
     coded = answer(second_command.encode, TITLED, 1024)
     expect('titles of a copy', second_reader.titles(coded[1]), [])
     does('encode a file with titles', ['encode', 'side.wav', 'new.wav'], files, coded,
-         remarks=["tronalhet: side.wav: left out: chunk 'cue ', chunk 'plst', chunk 'LIST'"])
+         remarks=["tronalhet: side.wav: left out: chunk 'cue ', chunk 'plst', the list of titles"])
     more = added(TITLED, SONG, 5, 9999)
     expect('titles of a side with a song more', second_reader.titles(more[1]), second_reader.titles(TITLED))
     does('add to a side with titles', ['add', 'side.wav', 'song.wav', '--number=5', '--limit=9999'], files, more,

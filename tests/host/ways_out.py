@@ -94,6 +94,8 @@ def endings():
         yield f'{label}, and an ID3 tag at the end', tagged, 'to leave out what comes after the end: ' + sox()
     yield 'a LIST cut', wave(fmt(), data(), chunk(b'LIST', bytes(100)))[:-40], kept
     yield 'a LIST past the end', wave(fmt(), data(), chunk(b'LIST', b'', 2)), kept
+    yield 'titles cut', wave(fmt(), cue(point(7, 0)), data(), adtl(labl(7, b'Song')))[:-3], \
+        f'to keep the sound, which is whole, without its cues and its titles: {sox()}'
     yield 'data past the end', wave(fmt(), chunk(b'data', bytes(8), 10)), AGAIN
     yield 'a LIST past the end before the sound', wave(fmt(), chunk(b'LIST', b'', 99), data()), AGAIN
 

@@ -59,9 +59,15 @@ impl Chunk {
         &file[self.start()..file.len().min(self.end())]
     }
 
+    /// Its type, where it is a list that has one.
+    pub fn list_type(&self, file: &[u8]) -> Option<Code> {
+        let data = self.data(file);
+        (&self.code.0 == b"LIST" && data.len() >= 4).then(|| Code::at(data, 0))
+    }
+
     /// Whether it is a list of a type.
     pub fn is_list(&self, file: &[u8], kind: &[u8; 4]) -> bool {
-        &self.code.0 == b"LIST" && self.data(file).starts_with(kind)
+        self.list_type(file) == Some(Code(*kind))
     }
 
     /// A fault of the chunk as a whole.
@@ -128,13 +134,17 @@ pub fn find(file: &[u8], code: &[u8; 4]) -> Option<Chunk> {
     chunks(file).flatten().find(|chunk| chunk.code.0 == *code)
 }
 
-/// The first chunk of a code, be it that it passes the end.
-pub fn find_any(file: &[u8], code: &[u8; 4]) -> Option<Chunk> {
-    let whole_or_not = |step| match step {
+/// The chunks of a file, the last of which may pass the end.
+pub fn any_chunks(file: &[u8]) -> impl Iterator<Item = Chunk> + '_ {
+    chunks(file).filter_map(|step| match step {
         Ok(chunk) | Err(Passing::Chunk(chunk)) => Some(chunk),
         Err(Passing::Header(_)) => None,
-    };
-    chunks(file).filter_map(whole_or_not).find(|chunk| chunk.code.0 == *code)
+    })
+}
+
+/// The first chunk of a code, be it that it passes the end.
+pub fn find_any(file: &[u8], code: &[u8; 4]) -> Option<Chunk> {
+    any_chunks(file).find(|chunk| chunk.code.0 == *code)
 }
 
 /// What passes the end of the file, if anything does.

@@ -12,11 +12,18 @@ pub enum Kept {
     All,
 }
 
-/// A kind of chunk that is left out, and how often it is there; it may be one of the list of titles.
+/// A kind of what is left out: chunks of a code, lists of a type, or chunks of a code in the list of titles.
+#[derive(Clone, Copy, Debug, PartialEq, Eq)]
+pub enum Left {
+    Chunk(Code),
+    List(Code),
+    InTitles(Code),
+}
+
+/// What is left out of a kind, and how often it is there.
 #[derive(Clone, Copy, Debug, PartialEq, Eq)]
 pub struct LeftOut {
-    pub code: Code,
-    pub in_titles: bool,
+    pub kind: Left,
     pub count: usize,
 }
 
@@ -27,26 +34,26 @@ impl Kept {
     }
 }
 
-/// The kinds of chunks of a file that are not kept, each with how often it is there. Of a list of titles the titles are
-/// kept; one without titles is left out as a whole.
+/// The kinds of what is not kept of a file, each with how often it is there. Where titles are kept, the other chunks of
+/// their list are left out; that a list without any chunk is gone is no loss.
 pub fn left_out(file: &[u8], kept: Kept) -> Vec<LeftOut> {
     let mut kinds = vec![];
     for chunk in chunks(file).flatten().filter(|chunk| !kept.has(chunk)) {
-        let inner = || chunks_in(file, &chunk).flatten();
-        if kept == Kept::All && chunk.is_list(file, b"adtl") && inner().any(|title| is_title(&title)) {
-            inner().filter(|other| !is_title(other)).for_each(|other| count(&mut kinds, other.code, true));
+        if kept == Kept::All && chunk.is_list(file, b"adtl") {
+            let others = chunks_in(file, &chunk).flatten().filter(|inner| !is_title(inner));
+            others.for_each(|other| count(&mut kinds, Left::InTitles(other.code)));
         } else {
-            count(&mut kinds, chunk.code, false);
+            count(&mut kinds, chunk.list_type(file).map_or(Left::Chunk(chunk.code), Left::List));
         }
     }
     kinds
 }
 
-/// Counts one chunk more of a kind, if that is named.
-fn count(kinds: &mut Vec<LeftOut>, code: Code, in_titles: bool) {
-    match kinds.iter().position(|kind| (kind.code, kind.in_titles) == (code, in_titles)) {
+/// Counts one more of a kind, if that is named.
+fn count(kinds: &mut Vec<LeftOut>, kind: Left) {
+    match kinds.iter().position(|counted| counted.kind == kind) {
         Some(place) => kinds[place].count += 1,
-        None if kinds.len() < MOST_KINDS => kinds.push(LeftOut { code, in_titles, count: 1 }),
+        None if kinds.len() < MOST_KINDS => kinds.push(LeftOut { kind, count: 1 }),
         None => {}
     }
 }
@@ -61,18 +68,32 @@ mod tests {
         bytes
     }
 
-    fn named(file: &[u8], kept: Kept) -> Vec<(String, bool, usize)> {
-        left_out(file, kept).into_iter().map(|kind| (kind.code.to_string(), kind.in_titles, kind.count)).collect()
+    fn named(file: &[u8], kept: Kept) -> Vec<(String, usize)> {
+        let name = |kind| match kind {
+            Left::Chunk(code) => format!("{code}"),
+            Left::List(code) => format!("list {code}"),
+            Left::InTitles(code) => format!("{code} in titles"),
+        };
+        left_out(file, kept).into_iter().map(|left| (name(left.kind), left.count)).collect()
+    }
+
+    fn counted(kinds: &[(&str, usize)]) -> Vec<(String, usize)> {
+        kinds.iter().map(|(name, count)| (name.to_string(), *count)).collect()
     }
 
     #[test]
     fn each_kind_is_named_once() {
         let codes = [b"LIST", b"fmt ", b"bext", b"LIST", b"cue ", b"data", b"id3\0"];
         let file = [b"RIFF....WAVE".to_vec(), codes.map(|code| chunk(code, b"abc")).concat()].concat();
-        let three = [("LIST".into(), false, 2), ("bext".into(), false, 1), ("id3\\x00".into(), false, 1)];
-        assert_eq!(named(&file, Kept::All), three);
-        let cues = [("cue ".into(), false, 1)];
-        assert_eq!(named(&file, Kept::Sound), [&three[..2], &cues, &three[2..]].concat());
+        assert_eq!(named(&file, Kept::All), counted(&[("LIST", 2), ("bext", 1), ("id3\\x00", 1)]));
+        assert_eq!(named(&file, Kept::Sound), counted(&[("LIST", 2), ("bext", 1), ("cue ", 1), ("id3\\x00", 1)]));
+    }
+
+    #[test]
+    fn a_list_is_named_by_its_type() {
+        let lists = [&b"INFOabc"[..], b"INFO", b"\0\"b\n", b"INF", b""].map(|data| chunk(b"LIST", data)).concat();
+        let three = counted(&[("list INFO", 2), ("list \\x00\\\"b\\n", 1), ("LIST", 2)]);
+        assert_eq!(named(&[b"RIFF....WAVE".to_vec(), lists].concat(), Kept::All), three);
     }
 
     #[test]
@@ -81,16 +102,13 @@ mod tests {
         let others = [chunk(b"ltxt", b"abc"), chunk(b"file", b""), chunk(b"ltxt", b"")].concat();
         let list = |inner: &[&[u8]]| chunk(b"LIST", &[&b"adtl"[..], &inner.concat()].concat());
         let file = |lists: &[Vec<u8>]| [b"RIFF....WAVE".to_vec(), chunk(b"ltxt", b""), lists.concat()].concat();
-        let outside = ("ltxt".to_string(), false, 1);
-        let whole = |count| [outside.clone(), ("LIST".into(), false, count)];
-        let titled = file(&[list(&[&others, &title]), chunk(b"LIST", b"INFO")]);
-        let inside = [outside.clone(), ("ltxt".into(), true, 2), ("file".into(), true, 1), ("LIST".into(), false, 1)];
-        assert_eq!(named(&titled, Kept::All), inside);
-        assert_eq!(named(&titled, Kept::Sound), whole(2));
-        assert_eq!(named(&file(&[list(&[&title])]), Kept::All), [outside.clone()]);
-        for untitled in [list(&[]), list(&[&others])] {
-            assert_eq!(named(&file(&[untitled.clone()]), Kept::All), whole(1));
-            assert_eq!(named(&file(&[untitled]), Kept::Sound), whole(1));
+        let inside = [("ltxt", 1), ("ltxt in titles", 2), ("file in titles", 1)];
+        let info = file(&[list(&[&others, &title]), chunk(b"LIST", b"INFO")]);
+        assert_eq!(named(&info, Kept::All), counted(&[inside[0], inside[1], inside[2], ("list INFO", 1)]));
+        for (inner, left) in [(&[&title[..]][..], &inside[..1]), (&[], &inside[..1]), (&[&others], &inside)] {
+            let file = file(&[list(inner)]);
+            assert_eq!(named(&file, Kept::All), counted(left));
+            assert_eq!(named(&file, Kept::Sound), counted(&[("ltxt", 1), ("list adtl", 1)]));
         }
     }
 }

@@ -1,7 +1,7 @@
 //! What can be done about a refusal: a line that says how, where that is certain enough.
 //!
 //! Each command line here was tried with the programs that it calls, and what it made was accepted.
-use super::chunks::{find, find_any, title_lists, Field};
+use super::chunks::{any_chunks, find, find_any, Field};
 use super::ending::{ending, open_sound, Ending};
 use super::format::{self, Fmt, ALIGN, AVERAGE, A_LAW, BITS, CHANNELS, FLOAT, MP3, MU_LAW, RATE, TAG, VALID_BITS};
 use super::kinds::Kind;
@@ -153,7 +153,7 @@ impl Source<'_> {
     /// What the file that is made will not have.
     fn lost_tables(&self) -> String {
         let there = |code| find_any(self.file, code).is_some();
-        let titles = title_lists(self.file).next().is_some();
+        let titles = any_chunks(self.file).any(|chunk| chunk.is_list(self.file, b"adtl"));
         let tables = [("its cues", there(b"cue ")), ("its playlist", there(b"plst")), ("its titles", titles)];
         let lost: Vec<&str> = tables.into_iter().filter_map(|(name, there)| there.then_some(name)).collect();
         match lost.split_last() {
