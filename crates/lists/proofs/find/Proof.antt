@@ -5,16 +5,16 @@ use borrow.Author.Rules.{rules}
 use Rattle.lists.proofs.find.Statement.{statement}
 use Rattle.lists.proofs.find.Tie as tie
 
-abbrev invariant-loop : tie.invariant-loop
-invariant-loop numbers number pairs k₀ k = Seeking number numbers (2 * k)
+abbrev invariant-loop-k : tie.invariant-loop-k
+invariant-loop-k numbers number pairs k₀ k = Seeking number numbers (2 * k)
 
-abbrev decreases-loop : tie.decreases-loop
-decreases-loop numbers number pairs k₀ k = pairs - k
+abbrev decreases-loop-k : tie.decreases-loop-k
+decreases-loop-k numbers number pairs k₀ k = pairs - k
 
 pub find_spec : {M : Type 1} → statement M
 find_spec =
     tie.close
-    (tie.spec invariant-loop decreases-loop (λ c. search rules) (λ c. search rules) (λ c. search rules) (λ c. search rules)
+    (tie.spec invariant-loop-k decreases-loop-k (λ c. search rules) (λ c. search rules) (λ c. search rules) (λ c. search rules)
     (λ c. search rules) (λ c. search (rules, seeking)) (λ c. search rules) (λ c. search rules)
     (λ c. search rules) (λ c. search rules) (λ c. search rules) (λ c. search rules)
     (λ c. search (rules, seeking)) (λ c. search rules) (λ c. search rules) (λ c. search (rules, seeking))

@@ -6,16 +6,16 @@ use borrow.Author.Rules.{rules}
 use Rattle.little.proofs.put_few.Statement.{statement}
 use Rattle.little.proofs.put_few.Tie as tie
 
-abbrev invariant-loop : tie.invariant-loop
-invariant-loop out₀ at bytes i₀ out i = Written bytes at i out out₀
+abbrev invariant-loop-i : tie.invariant-loop-i
+invariant-loop-i out₀ at bytes i₀ out i = Written bytes at i out out₀
 
-abbrev decreases-loop : tie.decreases-loop
-decreases-loop out₀ at bytes i₀ out i = length bytes - i
+abbrev decreases-loop-i : tie.decreases-loop-i
+decreases-loop-i out₀ at bytes i₀ out i = length bytes - i
 
 pub put_few_spec : {M : Type 1} → statement M
 put_few_spec =
     tie.close
-    (tie.spec invariant-loop decreases-loop (λ c. search (rules, copying)) (λ c. search (rules, copying))
+    (tie.spec invariant-loop-i decreases-loop-i (λ c. search (rules, copying)) (λ c. search (rules, copying))
     (λ c. search (rules, copying)) (λ c. search (rules, copying)) (λ c. search (rules, copying))
     (λ c. search (rules, copying)) (λ c. search (rules, copying)) (λ c. search (rules, copying))
     (λ c. search (rules, copying)))

@@ -5,18 +5,18 @@ use borrow.Author.Rules.{rules}
 use Rattle.little.proofs.put_turns.Statement.{statement}
 use Rattle.little.proofs.put_turns.Tie as tie
 
-abbrev invariant-loop : tie.invariant-loop
-invariant-loop out₀ at bytes n i₀ out i = Written bytes at i out out₀
+abbrev invariant-loop-i : tie.invariant-loop-i
+invariant-loop-i out₀ at bytes n i₀ out i = Written bytes at i out out₀
 
-abbrev decreases-loop : tie.decreases-loop
-decreases-loop out₀ at bytes n i₀ out i = n - i
+abbrev decreases-loop-i : tie.decreases-loop-i
+decreases-loop-i out₀ at bytes n i₀ out i = n - i
 
 pub put_turns_spec : {M : Type 1} → statement M
 put_turns_spec =
     tie.close
     (tie.spec
-    invariant-loop
-    decreases-loop
+    invariant-loop-i
+    decreases-loop-i
     (λ c. search (rules, parts-copying))
     (λ c. search (rules, parts-copying))
     (λ c. search (rules, parts-copying))

@@ -6,16 +6,16 @@ use borrow.Author.Rules.{rules}
 use Rattle.little.proofs.same_bytes.Statement.{statement}
 use Rattle.little.proofs.same_bytes.Tie as tie
 
-abbrev invariant-loop : tie.invariant-loop
-invariant-loop a b n i₀ i = Alike a b (same_bytes a b) i
+abbrev invariant-loop-i : tie.invariant-loop-i
+invariant-loop-i a b n i₀ i = Alike a b (same_bytes a b) i
 
-abbrev decreases-loop : tie.decreases-loop
-decreases-loop a b n i₀ i = n - i
+abbrev decreases-loop-i : tie.decreases-loop-i
+decreases-loop-i a b n i₀ i = n - i
 
 pub same_bytes_spec : {M : Type 1} → statement M
 same_bytes_spec =
     tie.close
-    (tie.spec invariant-loop decreases-loop (λ c. search (rules, comparing)) (λ c. search (rules, comparing))
+    (tie.spec invariant-loop-i decreases-loop-i (λ c. search (rules, comparing)) (λ c. search (rules, comparing))
     (λ c. search (rules, comparing)) (λ c κs. search (rules, comparing)) (λ c. search (rules, comparing))
     (λ c. search (rules, comparing)) (λ c. search (rules, comparing)) (λ c. search (rules, comparing))
     (λ c κs. search (rules, comparing)) (λ c. search (rules, comparing)))

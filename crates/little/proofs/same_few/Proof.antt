@@ -7,15 +7,15 @@ use borrow.Author.Rules.{rules}
 use Rattle.little.proofs.same_few.Statement.{statement}
 use Rattle.little.proofs.same_few.Tie as tie
 
-abbrev invariant-loop : tie.invariant-loop
-invariant-loop a b from at₀ at = Alike a b (same_bytes (drop from a) (drop from b)) at
+abbrev invariant-loop-at : tie.invariant-loop-at
+invariant-loop-at a b from at₀ at = Alike a b (same_bytes (drop from a) (drop from b)) at
 
-abbrev decreases-loop : tie.decreases-loop
-decreases-loop a b from at₀ at = length a - at
+abbrev decreases-loop-at : tie.decreases-loop-at
+decreases-loop-at a b from at₀ at = length a - at
 
 pub same_few_spec : {M : Type 1} → statement M
 same_few_spec =
     tie.close
-    (tie.spec invariant-loop decreases-loop (λ c. search (rules, comparing)) (λ c. search (rules, comparing))
+    (tie.spec invariant-loop-at decreases-loop-at (λ c. search (rules, comparing)) (λ c. search (rules, comparing))
     (λ c. search (rules, comparing)) (λ c. search (rules, comparing)) (λ c. search (rules, comparing))
     (λ c. search (rules, comparing)) (λ c. search (rules, comparing)) (λ c. search (rules, comparing)))

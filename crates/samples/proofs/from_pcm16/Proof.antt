@@ -7,16 +7,16 @@ use borrow.Author.Rules.{rules}
 use Rattle.samples.proofs.from_pcm16.Statement.{statement}
 use Rattle.samples.proofs.from_pcm16.Tie as tie
 
-abbrev invariant-loop : tie.invariant-loop
-invariant-loop bytes out₀ n i₀ out i = Written (samples_in bytes) 0 i out out₀
+abbrev invariant-loop-i : tie.invariant-loop-i
+invariant-loop-i bytes out₀ n i₀ out i = Written (samples_in bytes) 0 i out out₀
 
-abbrev decreases-loop : tie.decreases-loop
-decreases-loop bytes out₀ n i₀ out i = n - i
+abbrev decreases-loop-i : tie.decreases-loop-i
+decreases-loop-i bytes out₀ n i₀ out i = n - i
 
 pub from_pcm16_spec : {M : Type 1} → statement M
 from_pcm16_spec =
     tie.close
-    (tie.spec invariant-loop decreases-loop (λ c. search (rules, pcm-turning)) (λ c. search (rules, pcm-turning))
+    (tie.spec invariant-loop-i decreases-loop-i (λ c. search (rules, pcm-turning)) (λ c. search (rules, pcm-turning))
     (λ c κs. search (rules, pcm-turning)) (λ c. search (rules, pcm-turning)) (λ c. search (rules, pcm-turning))
     (λ c. search (rules, pcm-turning)) (λ c κs. search (rules, pcm-turning)) (λ c. search (rules, pcm-turning))
     (λ c. search (rules, pcm-turning)))

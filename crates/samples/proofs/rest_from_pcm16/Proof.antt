@@ -6,16 +6,16 @@ use borrow.Author.Rules.{rules}
 use Rattle.samples.proofs.rest_from_pcm16.Statement.{statement}
 use Rattle.samples.proofs.rest_from_pcm16.Tie as tie
 
-abbrev invariant-loop : tie.invariant-loop
-invariant-loop bytes i out₀ n j₀ out j = Rest (samples_in bytes) i j out out₀
+abbrev invariant-loop-j : tie.invariant-loop-j
+invariant-loop-j bytes i out₀ n j₀ out j = Rest (samples_in bytes) i j out out₀
 
-abbrev decreases-loop : tie.decreases-loop
-decreases-loop bytes i out₀ n j₀ out j = n - j
+abbrev decreases-loop-j : tie.decreases-loop-j
+decreases-loop-j bytes i out₀ n j₀ out j = n - j
 
 pub rest_from_pcm16_spec : {M : Type 1} → statement M
 rest_from_pcm16_spec =
     tie.close
-    (tie.spec invariant-loop decreases-loop (λ c. search (rules, rest-turning)) (λ c. search (rules, rest-turning))
+    (tie.spec invariant-loop-j decreases-loop-j (λ c. search (rules, rest-turning)) (λ c. search (rules, rest-turning))
     (λ c κs. search (rules, rest-turning)) (λ c. search (rules, rest-turning)) (λ c. search (rules, rest-turning))
     (λ c. search (rules, rest-turning)) (λ c. search (rules, rest-turning)) (λ c. search (rules, rest-turning))
     (λ c. search (rules, rest-turning)) (λ c. search (rules, rest-turning)))

@@ -8,16 +8,16 @@ use borrow.Author.Rules.{rules}
 use Rattle.samples.proofs.rest_from_pcm8.Statement.{statement}
 use Rattle.samples.proofs.rest_from_pcm8.Tie as tie
 
-abbrev invariant-loop : tie.invariant-loop
-invariant-loop bytes i out₀ j₀ out j = Rest (map eight bytes) i j out out₀
+abbrev invariant-loop-j : tie.invariant-loop-j
+invariant-loop-j bytes i out₀ j₀ out j = Rest (map eight bytes) i j out out₀
 
-abbrev decreases-loop : tie.decreases-loop
-decreases-loop bytes i out₀ j₀ out j = length bytes - j
+abbrev decreases-loop-j : tie.decreases-loop-j
+decreases-loop-j bytes i out₀ j₀ out j = length bytes - j
 
 pub rest_from_pcm8_spec : {M : Type 1} → statement M
 rest_from_pcm8_spec =
     tie.close
-    (tie.spec invariant-loop decreases-loop (λ c. search (rules, rest-turning)) (λ c. search (rules, rest-turning))
+    (tie.spec invariant-loop-j decreases-loop-j (λ c. search (rules, rest-turning)) (λ c. search (rules, rest-turning))
     (λ c κs. search (rules, rest-turning)) (λ c. search (rules, rest-turning)) (λ c. search (rules, rest-turning))
     (λ c. search (rules, rest-turning)) (λ c. search (rules, rest-turning)) (λ c. search (rules, rest-turning))
     (λ c. search (rules, rest-turning)) (λ c. search (rules, rest-turning)))

@@ -8,16 +8,16 @@ use borrow.Author.Rules.{rules}
 use Rattle.samples.proofs.to_pcm16.Statement.{statement}
 use Rattle.samples.proofs.to_pcm16.Tie as tie
 
-abbrev invariant-loop : tie.invariant-loop
-invariant-loop sound out₀ i₀ out i = Written (sound_bytes sound) 0 (2 * i) out out₀
+abbrev invariant-loop-i : tie.invariant-loop-i
+invariant-loop-i sound out₀ i₀ out i = Written (sound_bytes sound) 0 (2 * i) out out₀
 
-abbrev decreases-loop : tie.decreases-loop
-decreases-loop sound out₀ i₀ out i = length sound - i
+abbrev decreases-loop-i : tie.decreases-loop-i
+decreases-loop-i sound out₀ i₀ out i = length sound - i
 
 pub to_pcm16_spec : {M : Type 1} → statement M
 to_pcm16_spec =
     tie.close
-    (tie.spec invariant-loop decreases-loop (λ c. search (rules, sound-turning)) (λ c. search (rules, sound-turning))
+    (tie.spec invariant-loop-i decreases-loop-i (λ c. search (rules, sound-turning)) (λ c. search (rules, sound-turning))
     (λ c. search (rules, sound-turning)) (λ c. search (rules, sound-turning)) (λ c κs. search (rules, sound-turning))
     (λ c. search (rules, sound-turning)) (λ c. search (rules, sound-turning)) (λ c. search (rules, sound-turning))
     (λ c. search (rules, sound-turning)) (λ c. search (rules, sound-turning)))
