@@ -6,7 +6,7 @@ ghost use Rattle.little.specs.Writing.{Put};
 ghost use Rattle.codes.specs.Codes.{code_bytes, is_at};
 
 // The codes that mean something here.
-#[derive(Drop)]
+#[derive(Clone, Copy)]
 pub enum Code {
     Riff,
     Wave,

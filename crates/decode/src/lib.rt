@@ -12,7 +12,7 @@ use formats::Format;
 use units::{Frames, Refusal, Verdict};
 
 // The answer of decoding: how many frames were put out, or the refusal.
-#[derive(Drop)]
+#[derive(Clone, Copy)]
 pub enum Decoded {
     Frames(Frames),
     Refused(Refusal),

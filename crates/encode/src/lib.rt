@@ -10,7 +10,7 @@ use ima_coder::{Channel, Channels, mono_block, stereo_block};
 use units::{BytePlace, Frames, Refusal, Verdict};
 
 // What was written: how many bytes, and the chased samples of each channel.
-#[derive(Drop)]
+#[derive(Clone, Copy)]
 pub struct Coded {
     pub bytes: BytePlace,
     pub left: Frames,
@@ -18,7 +18,7 @@ pub struct Coded {
 }
 
 // The answer of encoding.
-#[derive(Drop)]
+#[derive(Clone, Copy)]
 pub enum Encoded {
     Blocks(Coded),
     Refused(Refusal),

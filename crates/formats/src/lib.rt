@@ -32,7 +32,7 @@ pub const PAIRS: [[i16; 2]; 7] = [
 ];
 
 // How the sound is coded; samples is the samples of a block in each channel, 1 for PCM.
-#[derive(Drop)]
+#[derive(Clone, Copy)]
 pub struct Format {
     pub tag: u16,
     pub channels: u16,

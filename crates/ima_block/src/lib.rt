@@ -14,7 +14,7 @@ ghost use Rattle.ima_block.specs.Block.{ima};
 use ima_code::{HELD, Held, ImaState, Steps, decode_code};
 
 // Both channels between two codes.
-#[derive(Drop)]
+#[derive(Clone, Copy)]
 pub struct ImaStates {
     pub left: ImaState,
     pub right: ImaState,

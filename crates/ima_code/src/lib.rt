@@ -4,14 +4,14 @@ ghost use Rattle.samples.specs.Sound.{hold};
 ghost use Rattle.ima_code.specs.Code.{IsSteps, IsHeld, step_at, difference_size, signed_by, index_from, after_code, bits_for, code_for, tracked, is_chased};
 
 // A channel between two codes: its last sample, and the index of its step.
-#[derive(Drop)]
+#[derive(Clone, Copy)]
 pub struct ImaState {
     pub last: i16,
     pub index: usize,
 }
 
 // What coding a sample gives: its code, whether it is chased, and the channel after it.
-#[derive(Drop)]
+#[derive(Clone, Copy)]
 pub struct SampleCode {
     pub code: u32,
     pub chased: bool,
@@ -19,7 +19,7 @@ pub struct SampleCode {
 }
 
 // The bits of a magnitude, and the size of the difference that they say.
-#[derive(Drop)]
+#[derive(Clone, Copy)]
 pub struct Bits {
     pub code: u32,
     pub size: u32,

@@ -13,14 +13,14 @@ ghost use Rattle.ima_coder.specs.Part.{samples_of, packed, block_head, coded_par
 use ima_code::{ImaState, Steps, encode_code};
 
 // A channel while it is coded: its state, and how many of its samples were chased.
-#[derive(Drop)]
+#[derive(Clone, Copy)]
 pub struct Channel {
     pub state: ImaState,
     pub chased: u32,
 }
 
 // Both channels.
-#[derive(Drop)]
+#[derive(Clone, Copy)]
 pub struct Channels {
     pub left: Channel,
     pub right: Channel,
@@ -28,7 +28,7 @@ pub struct Channels {
 
 // Which samples of a sound are a channel's next: the first at index `at`, the others a stride apart. So many as
 // `left` are there, and past index `last` the sample there is repeated.
-#[derive(Drop)]
+#[derive(Clone, Copy)]
 pub struct Samples {
     pub at: usize,
     pub stride: usize,
@@ -37,7 +37,7 @@ pub struct Samples {
 }
 
 // Two samples coded: their codes in a byte, whether each is chased, and the state after them.
-#[derive(Drop)]
+#[derive(Clone, Copy)]
 pub struct Two {
     pub byte: u8,
     pub first: bool,

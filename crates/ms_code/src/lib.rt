@@ -3,7 +3,7 @@ ghost use Rattle.std.specs.Prelude.{◌≡◌, ◌≤◌, ◌<◌, nat_abs};
 ghost use Rattle.ms_code.specs.Nibble.{IsFactors, Tame, signed_nibble, predicted, held_delta, after_nibble};
 
 // A channel between two nibbles: the pair of its predictor, its delta, and its last two samples.
-#[derive(Drop)]
+#[derive(Clone, Copy)]
 pub struct MsState {
     pub first: i32,
     pub second: i32,

@@ -20,7 +20,7 @@ use rules::{Reading, Record};
 use units::{BytePlace, Refusal, Verdict};
 
 // What a file says, and where its sound data and its list of titles stand.
-#[derive(Drop)]
+#[derive(Clone, Copy)]
 pub struct Opened {
     pub answer: Reading,
     pub sound: Spot,

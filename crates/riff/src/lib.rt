@@ -13,7 +13,7 @@ use codes::Code;
 use units::{BytePlace, Refusal, Verdict};
 
 // What a chunk is to the walk.
-#[derive(Drop)]
+#[derive(Clone, Copy)]
 pub enum Kind {
     Format,
     Sound,
@@ -26,7 +26,7 @@ pub enum Kind {
 }
 
 // The pad after a chunk's data: even data need none, and data that end with the file may lack it.
-#[derive(Drop)]
+#[derive(Clone, Copy)]
 pub enum Pad {
     NotNeeded,
     There,
@@ -35,7 +35,7 @@ pub enum Pad {
 
 // A chunk: what it is, whether its pad is there, where its data start, how many bytes they are, and where
 // the next chunk starts. The two small fields stand first, which leaves one gap in memory and not two.
-#[derive(Drop)]
+#[derive(Clone, Copy)]
 pub struct Place {
     pub kind: Kind,
     pub pad: Pad,
@@ -45,21 +45,21 @@ pub struct Place {
 }
 
 // A step of the walk.
-#[derive(Drop)]
+#[derive(Clone, Copy)]
 pub enum Step {
     Chunk(Place),
     Refused(Refusal),
 }
 
 // A chunk that may not have been met.
-#[derive(Drop)]
+#[derive(Clone, Copy)]
 pub enum Spot {
     At(Place),
     Missing,
 }
 
 // Where the chunks stand that a file is read by; of the lists of titles the first, and whether another came.
-#[derive(Drop)]
+#[derive(Clone, Copy)]
 pub struct Directory {
     pub format: Spot,
     pub sound: Spot,
@@ -71,7 +71,7 @@ pub struct Directory {
 }
 
 // What a walk ends with.
-#[derive(Drop)]
+#[derive(Clone, Copy)]
 pub enum Walked {
     Whole(Directory),
     Stopped(Refusal),

@@ -13,7 +13,7 @@ use titles::Titles;
 use units::{BytePlace, Frames, Refusal, Verdict};
 
 // What a WAVE file says besides its sound.
-#[derive(Drop)]
+#[derive(Clone, Copy)]
 pub struct Record {
     pub format: Format,
     pub frames: Frames,
@@ -23,7 +23,7 @@ pub struct Record {
 }
 
 // What reading a file answers; where it is refused, the record is all zero.
-#[derive(Drop)]
+#[derive(Clone, Copy)]
 pub struct Reading {
     pub verdict: Verdict,
     pub made: Record,

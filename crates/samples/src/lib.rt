@@ -61,7 +61,7 @@ pub fn held(value: i32) -> i16
 }
 
 // Four samples in a row.
-#[derive(Drop)]
+#[derive(Clone, Copy)]
 struct Four {
     first: i16,
     second: i16,

@@ -21,7 +21,7 @@ use units::{Donation, Frames};
 pub const MOST: u32 = 64;
 
 // A cue point: a song's number, its position in the order of playing, and its place in the sound.
-#[derive(Drop)]
+#[derive(Clone, Copy)]
 pub struct Cue {
     pub name: Donation,
     pub position: Frames,
@@ -29,14 +29,14 @@ pub struct Cue {
 }
 
 // A cue table; past the count it is zero.
-#[derive(Drop)]
+#[derive(Clone, Copy)]
 pub struct Cues {
     pub count: u32,
     pub list: [Cue; 64],
 }
 
 // A playlist entry: a cue's name, how many frames to play from there, and how often.
-#[derive(Drop)]
+#[derive(Clone, Copy)]
 pub struct Play {
     pub name: Donation,
     pub length: Frames,
@@ -44,7 +44,7 @@ pub struct Play {
 }
 
 // A playlist; past the count it is zero.
-#[derive(Drop)]
+#[derive(Clone, Copy)]
 pub struct Playlist {
     pub count: u32,
     pub list: [Play; 64],

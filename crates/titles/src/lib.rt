@@ -32,7 +32,7 @@ pub const LABEL: u32 = 0;
 pub const NOTE: u32 = 1;
 
 // A title: its kind, the name of its cue, where its text starts, and how many bytes come before its zero.
-#[derive(Drop)]
+#[derive(Clone, Copy)]
 pub struct Title {
     pub kind: u32,
     pub name: Donation,
@@ -41,21 +41,21 @@ pub struct Title {
 }
 
 // A table of titles; past the count it is zero.
-#[derive(Drop)]
+#[derive(Clone, Copy)]
 pub struct Titles {
     pub count: u32,
     pub list: [Title; 128],
 }
 
 // Whether a list has its form, and then where its titles stand in it.
-#[derive(Drop)]
+#[derive(Clone, Copy)]
 pub struct Found {
     pub form: bool,
     pub titles: Titles,
 }
 
 // Whether a list is valid, and then its titles as a record holds them.
-#[derive(Drop)]
+#[derive(Clone, Copy)]
 pub struct ListRead {
     pub valid: bool,
     pub titles: Titles,
@@ -63,7 +63,7 @@ pub struct ListRead {
 
 // The chunk at the front of what is left of a list: whether it is as it may be there, and then what it is,
 // how many bytes its data are, and where the rest starts.
-#[derive(Drop)]
+#[derive(Clone, Copy)]
 struct Front {
     fits: bool,
     kind: u32,

@@ -7,26 +7,26 @@ ghost use Rattle.std.specs.Prelude.{◌≡◌};
 ghost use Rattle.units.specs.Refusals.{number_of};
 
 // A number of frames: one sample of each channel is a frame.
-#[derive(Drop)]
+#[derive(Clone, Copy)]
 pub struct Frames(pub u32);
 
 // A place in a file or a buffer, or a length of one, counted in bytes.
-#[derive(Drop)]
+#[derive(Clone, Copy)]
 pub struct BytePlace(pub usize);
 
 // The number under which a song was donated; cues and playlist entries are named by it.
-#[derive(Drop)]
+#[derive(Clone, Copy)]
 pub struct Donation(pub u32);
 
 // A place among the texts of titles, or a length of one, counted in bytes.
-#[derive(Drop)]
+#[derive(Clone, Copy)]
 pub struct TextPlace(pub u32);
 
 // The limit: a file has at most so many bytes.
 pub const LIMIT: usize = 1073741824;
 
 // Why an input is refused, in the order of document 01's table.
-#[derive(Drop)]
+#[derive(Clone, Copy)]
 pub enum Refusal {
     LengthOutOfRange,
     NotWave,
@@ -52,7 +52,7 @@ pub enum Refusal {
 }
 
 // What an input is judged to be: taken, or refused and why.
-#[derive(Drop)]
+#[derive(Clone, Copy)]
 pub enum Verdict {
     Accepted,
     Refused(Refusal),

@@ -21,7 +21,7 @@ use wave::{Decoded, Encoded, Written};
 
 // How many bytes or frames there are, or the number of the refusal.
 #[repr(C)]
-#[derive(Drop)]
+#[derive(Clone, Copy)]
 pub struct Answer {
     pub refusal: u32,
     pub n: usize,
@@ -29,7 +29,7 @@ pub struct Answer {
 
 // The chased samples of each channel and the bytes of the blocks, or the number of the refusal.
 #[repr(C)]
-#[derive(Drop)]
+#[derive(Clone, Copy)]
 pub struct CodedAnswer {
     pub refusal: u32,
     pub left: u32,

@@ -25,7 +25,7 @@ use titles::Titles;
 use units::{BytePlace, Frames, Refusal, Verdict};
 
 // What writing answers: the number of bytes of the file, or why there is none.
-#[derive(Drop)]
+#[derive(Clone, Copy)]
 pub enum Written {
     Bytes(BytePlace),
     Refused(Refusal),
