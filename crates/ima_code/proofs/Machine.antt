@@ -78,7 +78,7 @@ sixteen-rest s = record { at = λ i. s.at (suc i) }
 pub after-in-range : {t : ImaState} (xs : List ℤ) → InRange t → InRange (after t xs)
 unfolding after
 after-in-range [] c = c
-after-in-range {t} (x ∷ xs) c = after-in-range xs (tracked-in-range t x)
+after-in-range {t} (x ∷ xs) c = after-in-range {t = tracked t x} xs (tracked-in-range t x)
 
 -- sample j of a list comes after the state before it, and is as near as demand 3 says; and whether it is chased
 pub faithful-at : {t : ImaState} {xs : List ℤ} (z : ImaState) → InRange t → Sixteen xs → (j : ℕ) → j < length xs
@@ -86,7 +86,7 @@ pub faithful-at : {t : ImaState} {xs : List ℤ} (z : ImaState) → InRange t �
 unfolding tracked_all
 faithful-at {xs = []} z c s j h = absurd (omega arith)
 faithful-at {xs = x ∷ xs} z c s zero h = faithful c (sixteen-first s)
-faithful-at {t} {xs = x ∷ xs} z c s (suc j) h = faithful-at z (tracked-in-range t x) (sixteen-rest s) j (omega arith)
+faithful-at {t} {xs = x ∷ xs} z c s (suc j) h = faithful-at {t = tracked t x} z (tracked-in-range t x) (sixteen-rest s) j (omega arith)
 
 pub chased-at : (t : ImaState) (xs : List ℤ) (z : ImaState) (j : ℕ) → j < length xs
     → get_or (chased_of t xs) j false ≡ is_chased (get_or (t ∷ tracked_all t xs) j z) (get_or xs j (pos 0))

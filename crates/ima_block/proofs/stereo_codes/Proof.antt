@@ -5,42 +5,42 @@ use borrow.Author.Rules.{rules}
 use Rattle.ima_block.proofs.stereo_codes.Statement.{statement}
 use Rattle.ima_block.proofs.stereo_codes.Tie as tie
 
-abbrev invariant-loop : tie.invariant-loop
-invariant-loop block frames table held out₀ at l₀ r₀ n₀ to₀ i₀ out l r n to i =
+abbrev invariant-loop-n : tie.invariant-loop-n
+invariant-loop-n block frames table held out₀ at l₀ r₀ n₀ to₀ i₀ out l r n to i =
     Stereo block frames out₀ at l₀ r₀ out l r n to i
 
-abbrev decreases-loop : tie.decreases-loop
-decreases-loop block frames table held out₀ at l₀ r₀ n₀ to₀ i₀ out l r n to i = n
+abbrev decreases-loop-n : tie.decreases-loop-n
+decreases-loop-n block frames table held out₀ at l₀ r₀ n₀ to₀ i₀ out l r n to i = n
 
-slice-set-from-y : tie.Need-slice-set-from-y invariant-loop decreases-loop
+slice-set-from-y : tie.Need-slice-set-from-y invariant-loop-n decreases-loop-n
 slice-set-from-y c =
     let d = c.before.before.before.before.before.before.before.before.before.before in
-    search (rules, double, d.before.loop.invariant, d.loop-test.true)
+    search (rules, double, d.before.loop-n.invariant, d.loop-test.true)
 
-slice-set-from-z : tie.Need-slice-set-from-z invariant-loop decreases-loop
+slice-set-from-z : tie.Need-slice-set-from-z invariant-loop-n decreases-loop-n
 slice-set-from-z c =
     let d = c.before.before.before.before.before.before.before.before.before.before in
-    search (rules, double, d.before.loop.invariant, d.loop-test.true)
+    search (rules, double, d.before.loop-n.invariant, d.loop-test.true)
 
-slice-set-from-w : tie.Need-slice-set-from-w invariant-loop decreases-loop
+slice-set-from-w : tie.Need-slice-set-from-w invariant-loop-n decreases-loop-n
 slice-set-from-w c =
     let d = c.before.before.before.before.before.before.before.before.before.before in
-    search (rules, double, d.before.loop.invariant, d.loop-test.true)
+    search (rules, double, d.before.loop-n.invariant, d.loop-test.true)
 
-slice-set-from-y-2 : tie.Need-slice-set-from-y-2 invariant-loop decreases-loop
+slice-set-from-y-2 : tie.Need-slice-set-from-y-2 invariant-loop-n decreases-loop-n
 slice-set-from-y-2 c =
     let d = c.before.before.before.before.before.before in
-    search (rules, double, d.before.before.loop.invariant, d.if1.true)
+    search (rules, double, d.before.before.loop-n.invariant, d.if1.true)
 
-loop-again : tie.Need-loop-preserved invariant-loop decreases-loop
+loop-again : tie.Need-loop-n-preserved invariant-loop-n decreases-loop-n
 loop-again c =
-    let w = c.before.before.before.before.before.before.before.before.before.before.before.loop.invariant in
+    let w = c.before.before.before.before.before.before.before.before.before.before.before.loop-n.invariant in
     search (w, stereo-turn)
 
 pub stereo_codes_spec : {M : Type 1} → statement M
 stereo_codes_spec =
     tie.close
-    (tie.spec invariant-loop decreases-loop (λ c. search (rules, double)) (λ c. search (rules, double))
+    (tie.spec invariant-loop-n decreases-loop-n (λ c. search (rules, double)) (λ c. search (rules, double))
     (λ c. search (rules, double)) (λ c. search (rules, double)) (λ c. search (rules, double))
     (λ c. search (rules, double)) (λ c. search (rules, double)) (λ c. search (rules, double))
     (λ c κs. search (rules, double)) (λ c. search (rules, double)) (λ c κs. search (rules, double))

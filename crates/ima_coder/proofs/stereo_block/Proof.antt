@@ -4,7 +4,7 @@ use borrow.Author.Rules.{rules}
 use Rattle.ima_coder.proofs.stereo_block.Statement.{statement}
 use Rattle.ima_coder.proofs.stereo_block.Tie as tie
 
-stereo-groups-requires : tie.Need-stereo-groups-requires
+stereo-groups-requires : tie.Need-stereo_groups-requires
 stereo-groups-requires c κs =
     (search rules, search rules, search rules, search rules, search rules, search rules, search rules, search rules, search rules, search rules)
 

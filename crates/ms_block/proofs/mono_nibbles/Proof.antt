@@ -7,17 +7,17 @@ use borrow.Author.Rules.{rules}
 use Rattle.ms_block.proofs.mono_nibbles.Statement.{statement}
 use Rattle.ms_block.proofs.mono_nibbles.Tie as tie
 
-abbrev invariant-loop : tie.invariant-loop
-invariant-loop block frames table out₀ at state₀ left₀ to₀ i₀ out state left to i =
+abbrev invariant-loop-left : tie.invariant-loop-left
+invariant-loop-left block frames table out₀ at state₀ left₀ to₀ i₀ out state left to i =
     Single microsoft Tame high low block 7 frames out₀ at state₀ out state left to i
 
-abbrev decreases-loop : tie.decreases-loop
-decreases-loop block frames table out₀ at state₀ left₀ to₀ i₀ out state left to i = left
+abbrev decreases-loop-left : tie.decreases-loop-left
+decreases-loop-left block frames table out₀ at state₀ left₀ to₀ i₀ out state left to i = left
 
 pub mono_nibbles_spec : {M : Type 1} → statement M
 mono_nibbles_spec =
     tie.close
-    (tie.spec invariant-loop decreases-loop (λ c. search (rules, single)) (λ c. search rules) (λ c. search (rules, single))
+    (tie.spec invariant-loop-left decreases-loop-left (λ c. search (rules, single)) (λ c. search rules) (λ c. search (rules, single))
     (λ c κs. search (rules, single)) (λ c. search (rules, single)) (λ c κs. search (rules, single))
     (λ c. search rules) (λ c. search rules) (λ c. search rules) (λ c. search rules) (λ c. search (rules, single))
     (λ c. search rules) (λ c. search rules) (λ c. search rules) (λ c. search (rules, single)) (λ c. search rules)

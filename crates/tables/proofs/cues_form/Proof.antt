@@ -7,16 +7,16 @@ use Rattle.tables.proofs.Forms.{forming}
 use Rattle.tables.proofs.cues_form.Statement.{statement}
 use Rattle.tables.proofs.cues_form.Tie as tie
 
-abbrev invariant-loop : tie.invariant-loop
-invariant-loop bytes count n i₀ i = Holding (λ k. plain_cue bytes (4 + 24 * k)) n i
+abbrev invariant-loop-i : tie.invariant-loop-i
+invariant-loop-i bytes count n i₀ i = Holding (λ k. plain_cue bytes (4 + 24 * k)) n i
 
-abbrev decreases-loop : tie.decreases-loop
-decreases-loop bytes count n i₀ i = n - i
+abbrev decreases-loop-i : tie.decreases-loop-i
+decreases-loop-i bytes count n i₀ i = n - i
 
 pub cues_form_spec : {M : Type 1} → statement M
 cues_form_spec =
     tie.close
-    (tie.spec invariant-loop decreases-loop (λ c κs. search rules) (λ c. search (rules, holding, forming)) (λ c. search rules)
+    (tie.spec invariant-loop-i decreases-loop-i (λ c κs. search rules) (λ c. search (rules, holding, forming)) (λ c. search rules)
     (λ c. search rules) (λ c. search rules) (λ c. search (rules, holding, forming))
     (λ c. search (rules, holding, forming)) (λ c. search rules) (λ c. search rules) (λ c κs. search rules)
     (λ c. search (rules, holding, forming)) (λ c. search rules) (λ c. search rules)

@@ -6,15 +6,15 @@ use Rattle.tables.proofs.Entries.{Mapped, mapping}
 use Rattle.tables.proofs.places_of.Statement.{statement}
 use Rattle.tables.proofs.places_of.Tie as tie
 
-abbrev invariant-loop : tie.invariant-loop
-invariant-loop list places₀ i₀ places i = Mapped place_of no_cue list i places
+abbrev invariant-loop-i : tie.invariant-loop-i
+invariant-loop-i list places₀ i₀ places i = Mapped place_of no_cue list i places
 
-abbrev decreases-loop : tie.decreases-loop
-decreases-loop list places₀ i₀ places i = 64 - i
+abbrev decreases-loop-i : tie.decreases-loop-i
+decreases-loop-i list places₀ i₀ places i = 64 - i
 
 pub places_of_spec : {M : Type 1} → statement M
 places_of_spec =
     tie.close
-    (tie.spec invariant-loop decreases-loop (λ c. search (rules, mapping)) (λ c. search rules) (λ c. search rules)
+    (tie.spec invariant-loop-i decreases-loop-i (λ c. search (rules, mapping)) (λ c. search rules) (λ c. search rules)
     (λ c. search rules) (λ c. search rules) (λ c. search rules) (λ c. search rules) (λ c. search (rules, mapping))
     (λ c. search (rules, mapping)))

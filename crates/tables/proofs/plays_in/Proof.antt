@@ -6,16 +6,16 @@ use Rattle.tables.proofs.Entries.{Listed, listing}
 use Rattle.tables.proofs.plays_in.Statement.{statement}
 use Rattle.tables.proofs.plays_in.Tie as tie
 
-abbrev invariant-loop : tie.invariant-loop
-invariant-loop bytes n list₀ i₀ list i = Listed (plays_in bytes) (λ k. play_at bytes (4 + 12 * k)) n i list
+abbrev invariant-loop-i : tie.invariant-loop-i
+invariant-loop-i bytes n list₀ i₀ list i = Listed (plays_in bytes) (λ k. play_at bytes (4 + 12 * k)) n i list
 
-abbrev decreases-loop : tie.decreases-loop
-decreases-loop bytes n list₀ i₀ list i = n - i
+abbrev decreases-loop-i : tie.decreases-loop-i
+decreases-loop-i bytes n list₀ i₀ list i = n - i
 
 pub plays_in_spec : {M : Type 1} → statement M
 plays_in_spec =
     tie.close
-    (tie.spec invariant-loop decreases-loop (λ c κs. search rules) (λ c. search (rules, listing))
+    (tie.spec invariant-loop-i decreases-loop-i (λ c κs. search rules) (λ c. search (rules, listing))
     (λ c. search (rules, listing)) (λ c. search (rules, listing)) (λ c κs. search rules)
     (λ c. search (rules, listing)) (λ c. search (rules, listing)) (λ c. search (rules, listing))
     (λ c. search (rules, listing)) (λ c. search (rules, listing)) (λ c. search (rules, listing)))
