@@ -12,25 +12,25 @@ invariant-loop-n block frames table held out₀ at l₀ r₀ n₀ to₀ i₀ out
 abbrev decreases-loop-n : tie.decreases-loop-n
 decreases-loop-n block frames table held out₀ at l₀ r₀ n₀ to₀ i₀ out l r n to i = n
 
-slice-set-from-y : tie.Need-slice-set-from-y invariant-loop-n decreases-loop-n
+slice-set-from-y : tie.Need-bounds-out-to-in-loop-n invariant-loop-n decreases-loop-n
 slice-set-from-y c =
     let d = c.before.before.before.before.before.before.before.before.before.before in
-    search (rules, double, d.before.loop-n.invariant, d.loop-test.true)
+    search (rules, double, d.before.loop-n.invariant, d.loop-n-test.true)
 
-slice-set-from-z : tie.Need-slice-set-from-z invariant-loop-n decreases-loop-n
+slice-set-from-z : tie.Need-bounds-out-to-in-loop-n-2 invariant-loop-n decreases-loop-n
 slice-set-from-z c =
     let d = c.before.before.before.before.before.before.before.before.before.before in
-    search (rules, double, d.before.loop-n.invariant, d.loop-test.true)
+    search (rules, double, d.before.loop-n.invariant, d.loop-n-test.true)
 
-slice-set-from-w : tie.Need-slice-set-from-w invariant-loop-n decreases-loop-n
+slice-set-from-w : tie.Need-bounds-out-to-in-loop-n-3 invariant-loop-n decreases-loop-n
 slice-set-from-w c =
     let d = c.before.before.before.before.before.before.before.before.before.before in
-    search (rules, double, d.before.loop-n.invariant, d.loop-test.true)
+    search (rules, double, d.before.loop-n.invariant, d.loop-n-test.true)
 
-slice-set-from-y-2 : tie.Need-slice-set-from-y-2 invariant-loop-n decreases-loop-n
+slice-set-from-y-2 : tie.Need-bounds-out-to-then-n-eq1-2 invariant-loop-n decreases-loop-n
 slice-set-from-y-2 c =
     let d = c.before.before.before.before.before.before in
-    search (rules, double, d.before.before.loop-n.invariant, d.if1.true)
+    search (rules, double, d.before.before.loop-n.invariant, d.if-n-eq1.true)
 
 loop-again : tie.Need-loop-n-preserved invariant-loop-n decreases-loop-n
 loop-again c =

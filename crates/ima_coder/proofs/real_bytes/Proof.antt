@@ -13,11 +13,11 @@ invariant-loop-i sound which n table out₀ to state₀ chased₀ x₀ i₀ out 
 abbrev decreases-loop-i : tie.decreases-loop-i
 decreases-loop-i sound which n table out₀ to state₀ chased₀ x₀ i₀ out state chased x i = n - i
 
-add-out-2 : tie.Need-overflow_add-out invariant-loop-i decreases-loop-i
+add-out-2 : tie.Need-overflow_add-out-in-loop-i invariant-loop-i decreases-loop-i
 add-out-2 c =
     let d = c.before.before.before.before.before.before in
     let a = d.before.before.before.before in
-    search (rules, d.before.loop-i.invariant, d.loop-i-test.true, a.well-formed, a.ranges, a.requires)
+    search (rules, d.before.loop-i.invariant, d.loop-i-test.true, a.well_formed, a.ranges, a.requires)
 
 pub real_bytes_spec : {M : Type 1} → statement M
 real_bytes_spec =
