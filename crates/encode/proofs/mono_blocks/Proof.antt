@@ -5,17 +5,17 @@ use Rattle.encode.proofs.Loops.{Mono, mono-coding}
 use Rattle.encode.proofs.mono_blocks.Statement.{statement}
 use Rattle.encode.proofs.mono_blocks.Tie as tie
 
-abbrev invariant-loop : tie.invariant-loop
-invariant-loop sound align n out₀ table groups channel₀ frame₀ to₀ i₀ out channel frame to i =
+abbrev invariant-loop-i : tie.invariant-loop-i
+invariant-loop-i sound align n out₀ table groups channel₀ frame₀ to₀ i₀ out channel frame to i =
     Mono sound align n out₀ groups channel frame to i out
 
-abbrev decreases-loop : tie.decreases-loop
-decreases-loop sound align n out₀ table groups channel₀ frame₀ to₀ i₀ out channel frame to i = n - i
+abbrev decreases-loop-i : tie.decreases-loop-i
+decreases-loop-i sound align n out₀ table groups channel₀ frame₀ to₀ i₀ out channel frame to i = n - i
 
 pub mono_blocks_spec : {M : Type 1} → statement M
 mono_blocks_spec =
     tie.close
-    (tie.spec invariant-loop decreases-loop (λ c. search rules) (λ c. search (rules, mono-coding))
+    (tie.spec invariant-loop-i decreases-loop-i (λ c. search rules) (λ c. search (rules, mono-coding))
     (λ c κs. (
       search (rules, mono-coding),
       search rules,
@@ -25,6 +25,6 @@ mono_blocks_spec =
       search (rules, mono-coding),
       search rules,
     )) (λ c. search rules) (λ c. search rules)
-    (λ c. search (rules, mono-coding, c.before.before.before.before.before.before.loop.invariant))
+    (λ c. search (rules, mono-coding, c.before.before.before.before.before.before.loop-i.invariant))
     (λ c. search rules) (λ c. search rules) (λ c. search rules) (λ c. search (rules, mono-coding))
     (λ c. search rules) (λ c. search (rules, mono-coding)))

@@ -5,17 +5,17 @@ use Rattle.encode.proofs.Loops.{Stereo, stereo-coding}
 use Rattle.encode.proofs.stereo_blocks.Statement.{statement}
 use Rattle.encode.proofs.stereo_blocks.Tie as tie
 
-abbrev invariant-loop : tie.invariant-loop
-invariant-loop sound align n out₀ table groups channels₀ at₀ to₀ i₀ out channels at to i =
+abbrev invariant-loop-i : tie.invariant-loop-i
+invariant-loop-i sound align n out₀ table groups channels₀ at₀ to₀ i₀ out channels at to i =
     Stereo sound align n out₀ groups channels at to i out
 
-abbrev decreases-loop : tie.decreases-loop
-decreases-loop sound align n out₀ table groups channels₀ at₀ to₀ i₀ out channels at to i = n - i
+abbrev decreases-loop-i : tie.decreases-loop-i
+decreases-loop-i sound align n out₀ table groups channels₀ at₀ to₀ i₀ out channels at to i = n - i
 
 pub stereo_blocks_spec : {M : Type 1} → statement M
 stereo_blocks_spec =
     tie.close
-    (tie.spec invariant-loop decreases-loop (λ c. search rules) (λ c. search (rules, stereo-coding))
+    (tie.spec invariant-loop-i decreases-loop-i (λ c. search rules) (λ c. search (rules, stereo-coding))
     (λ c κs. (
       search (rules, stereo-coding),
       search rules,

@@ -5,15 +5,15 @@ use Rattle.titles.proofs.Putting.{Added, adding}
 use Rattle.titles.proofs.chunks_size.Statement.{statement}
 use Rattle.titles.proofs.chunks_size.Tie as tie
 
-abbrev invariant-loop : tie.invariant-loop
-invariant-loop source n list size₀ i₀ size i = Added source list n i size
+abbrev invariant-loop-i : tie.invariant-loop-i
+invariant-loop-i source n list size₀ i₀ size i = Added source list n i size
 
-abbrev decreases-loop : tie.decreases-loop
-decreases-loop source n list size₀ i₀ size i = n - i
+abbrev decreases-loop-i : tie.decreases-loop-i
+decreases-loop-i source n list size₀ i₀ size i = n - i
 
 pub chunks_size_spec : {M : Type 1} → statement M
 chunks_size_spec =
     tie.close
-    (tie.spec invariant-loop decreases-loop (λ c. search rules) (λ c. search rules) (λ c. search rules)
+    (tie.spec invariant-loop-i decreases-loop-i (λ c. search rules) (λ c. search rules) (λ c. search rules)
     (λ c κs. search (rules, adding)) (λ c. search rules) (λ c. search rules) (λ c. search rules)
     (λ c. search (rules, adding)) (λ c. search (rules, adding)))

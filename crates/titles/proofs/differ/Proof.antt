@@ -6,16 +6,16 @@ use borrow.Author.Rules.{rules}
 use Rattle.titles.proofs.differ.Statement.{statement}
 use Rattle.titles.proofs.differ.Tie as tie
 
-abbrev invariant-loop : tie.invariant-loop
-invariant-loop n kind list names₀ count₀ i₀ names count i = Naming kind list n count i names
+abbrev invariant-loop-i : tie.invariant-loop-i
+invariant-loop-i n kind list names₀ count₀ i₀ names count i = Naming kind list n count i names
 
-abbrev decreases-loop : tie.decreases-loop
-decreases-loop n kind list names₀ count₀ i₀ names count i = n - i
+abbrev decreases-loop-i : tie.decreases-loop-i
+decreases-loop-i n kind list names₀ count₀ i₀ names count i = n - i
 
 pub differ_spec : {M : Type 1} → statement M
 differ_spec =
     tie.close
-    (tie.spec invariant-loop decreases-loop (λ c. search (rules, naming, part-long)) (λ c. search (rules, naming, part-long))
+    (tie.spec invariant-loop-i decreases-loop-i (λ c. search (rules, naming, part-long)) (λ c. search (rules, naming, part-long))
     (λ c. search (rules, naming, part-long)) (λ c. search (rules, naming, part-long))
     (λ c. search (rules, naming, part-long)) (λ c. search (rules, naming, part-long))
     (λ c. search (rules, naming, part-long)) (λ c. search (rules, naming, part-long))

@@ -6,16 +6,16 @@ use borrow.Author.Rules.{rules}
 use Rattle.titles.proofs.find_titles.Statement.{statement}
 use Rattle.titles.proofs.find_titles.Tie as tie
 
-abbrev invariant-loop : tie.invariant-loop
-invariant-loop list lost titles₀ n₀ at₀ titles n at = Finding lost list at n titles
+abbrev invariant-loop-at : tie.invariant-loop-at
+invariant-loop-at list lost titles₀ n₀ at₀ titles n at = Finding lost list at n titles
 
-abbrev decreases-loop : tie.decreases-loop
-decreases-loop list lost titles₀ n₀ at₀ titles n at = length list - at
+abbrev decreases-loop-at : tie.decreases-loop-at
+decreases-loop-at list lost titles₀ n₀ at₀ titles n at = length list - at
 
 pub find_titles_spec : {M : Type 1} → statement M
 find_titles_spec =
     tie.close
-    (tie.spec invariant-loop decreases-loop (λ c κs. search (rules, finding)) (λ c. search (rules, finding))
+    (tie.spec invariant-loop-at decreases-loop-at (λ c κs. search (rules, finding)) (λ c. search (rules, finding))
     (λ c κs. search (rules, finding)) (λ c κs. search (rules, finding)) (λ c κs. search (rules, finding))
     (λ c. search (rules, finding)) (λ c. search (rules, finding)) (λ c κs. search (rules, finding))
     (λ c. search (rules, finding)) (λ c κs. search (rules, finding)) (λ c. search (rules, finding))

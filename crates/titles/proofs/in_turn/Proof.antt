@@ -5,16 +5,16 @@ use Rattle.titles.proofs.Texts.{Turned, turning}
 use Rattle.titles.proofs.in_turn.Statement.{statement}
 use Rattle.titles.proofs.in_turn.Tie as tie
 
-abbrev invariant-loop : tie.invariant-loop
-invariant-loop n list placed₀ at₀ i₀ placed at i = Turned list n i at placed
+abbrev invariant-loop-i : tie.invariant-loop-i
+invariant-loop-i n list placed₀ at₀ i₀ placed at i = Turned list n i at placed
 
-abbrev decreases-loop : tie.decreases-loop
-decreases-loop n list placed₀ at₀ i₀ placed at i = n - i
+abbrev decreases-loop-i : tie.decreases-loop-i
+decreases-loop-i n list placed₀ at₀ i₀ placed at i = n - i
 
 pub in_turn_spec : {M : Type 1} → statement M
 in_turn_spec =
     tie.close
-    (tie.spec invariant-loop decreases-loop (λ c κs. search rules) (λ c. search rules) (λ c. search rules) (λ c. search rules)
+    (tie.spec invariant-loop-i decreases-loop-i (λ c κs. search rules) (λ c. search rules) (λ c. search rules) (λ c. search rules)
     (λ c κs. search rules) (λ c. search rules) (λ c. search rules) (λ c. search (rules, turning))
     (λ c. search (rules, turning)) (λ c. search rules) (λ c. search rules) (λ c. search (rules, turning))
     (λ c. search (rules, turning)))

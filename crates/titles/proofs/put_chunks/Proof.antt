@@ -7,15 +7,15 @@ use Rattle.titles.proofs.Putting.{text-short}
 use Rattle.titles.proofs.put_chunks.Statement.{statement}
 use Rattle.titles.proofs.put_chunks.Tie as tie
 
-abbrev invariant-loop : tie.invariant-loop
-invariant-loop source n out₀ at list next₀ i₀ out next i = Poured chunk_of source list n i at next out out₀
+abbrev invariant-loop-i : tie.invariant-loop-i
+invariant-loop-i source n out₀ at list next₀ i₀ out next i = Poured chunk_of source list n i at next out out₀
 
-abbrev decreases-loop : tie.decreases-loop
-decreases-loop source n out₀ at list next₀ i₀ out next i = n - i
+abbrev decreases-loop-i : tie.decreases-loop-i
+decreases-loop-i source n out₀ at list next₀ i₀ out next i = n - i
 
 pub put_chunks_spec : {M : Type 1} → statement M
 put_chunks_spec =
     tie.close
-    (tie.spec invariant-loop decreases-loop (λ c. search (rules, pouring)) (λ c. search rules) (λ c. search rules)
+    (tie.spec invariant-loop-i decreases-loop-i (λ c. search (rules, pouring)) (λ c. search rules) (λ c. search rules)
     (λ c κs. search (rules, pouring, text-short)) (λ c. search rules) (λ c. search rules)
     (λ c. search (rules, pouring)) (λ c. search rules) (λ c. search (rules, pouring)))
