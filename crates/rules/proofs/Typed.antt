@@ -1,9 +1,8 @@
 -- The numbers of a record of the code fit the fields that they are written to, since its types say so, of an array for each
 -- entry. Assumes nothing.
-use mathlib.Core.Path.{sym, ◌∙◌}
-use mathlib.Core.List.{List, [], ◌∷◌, map}
+use mathlib.Core.List.{List, [], ◌∷◌}
 use Prim.Native.Nat.{ℕ, zero, suc, ◌<◌}
-use lib.ListN.{get_or, length-map}
+use lib.ListN.{get_or}
 use borrow.Author.Rules.{rules}
 use mir.Val.{Val}
 use base.Fml.{Fml}
@@ -32,9 +31,9 @@ use Rattle.rules.specs.Written.{RecordFits}
 use Rattle.rules.specs.contracts.Record as made
 
 -- what each entry of an array keeps, the one at any place keeps, where the one past the end does
-module _ {A D : Type 0} (into : A → D) (own : D → List Val → Fml) (P : A → Type 0) (z : A) (none : P z)
-    (one : (x : A) (u : Val) → shadow (own (into x) (u ∷ [])) → P x) where
-  each_keeps : (xs : List A) (us : List Val) → shadow (each D own (map into xs) us) → (i : ℕ) → P (get_or xs i z)
+module _ {A : Type 0} (own : A → List Val → Fml) (P : A → Type 0) (z : A) (none : P z)
+    (one : (x : A) (u : Val) → shadow (own x (u ∷ [])) → P x) where
+  each_keeps : (xs : List A) (us : List Val) → shadow (each A own xs us) → (i : ℕ) → P (get_or xs i z)
   each_keeps [] us s i = none
   each_keeps (x ∷ xs) [] s i = absurd s
   each_keeps (x ∷ xs) (u ∷ us) s zero = one x u s.0
@@ -48,11 +47,11 @@ cues-typed : (c : Cues) (vs : List Val) → Is cues.the_row c vs → CuesFit c
 cues-typed c vs s =
     let l = s.1.1.1.0 in
     let e =
-    each_keeps (cue.the_field).into (cue.the_field).row.own_val (Three Cue (λ x. x.name.0) (λ x. x.position.0) (λ x. x.place.0)) no_cue
+    each_keeps (cue.the_row).own_val (Three Cue (λ x. x.name.0) (λ x. x.position.0) (λ x. x.place.0)) no_cue
     (search rules) (λ x u h. search rules) c.list l.0 l.1.1 in
     record {
       count = search rules;
-      room = sym (length-map c.list (cue.the_field).into) ∙ l.1.0.1;
+      room = l.1.0.1;
       name = λ i. (e i).0;
       position = λ i. (e i).1;
       place = λ i. (e i).2;
@@ -62,11 +61,11 @@ plays-typed : (p : Playlist) (vs : List Val) → Is plays.the_row p vs → Plays
 plays-typed p vs s =
     let l = s.1.1.1.0 in
     let e =
-    each_keeps (play.the_field).into (play.the_field).row.own_val (Three Play (λ x. x.name.0) (λ x. x.length.0) (λ x. x.times)) no_play
+    each_keeps (play.the_row).own_val (Three Play (λ x. x.name.0) (λ x. x.length.0) (λ x. x.times)) no_play
     (search rules) (λ x u h. search rules) p.list l.0 l.1.1 in
     record {
       count = search rules;
-      room = sym (length-map p.list (play.the_field).into) ∙ l.1.0.1;
+      room = l.1.0.1;
       name = λ i. (e i).0;
       long = λ i. (e i).1;
       times = λ i. (e i).2;
@@ -76,8 +75,8 @@ titles-typed : (t : Titles) (vs : List Val) → Is titles.the_row t vs → Title
 titles-typed t vs s =
     let l = s.1.1.1.0 in
     record {
-      room = sym (length-map t.list (title.the_field).into) ∙ l.1.0.1;
-      name = each_keeps (title.the_field).into (title.the_field).row.own_val (λ (x : Title). x.name.0 < 4294967296) no_title (search rules)
+      room = l.1.0.1;
+      name = each_keeps (title.the_row).own_val (λ (x : Title). x.name.0 < 4294967296) no_title (search rules)
           (λ x u h. search rules) t.list l.0 l.1.1;
     }
 
