@@ -4,7 +4,7 @@ use borrow.Author.Rules.{rules}
 use Rattle.reader.proofs.open_chunks.Statement.{statement}
 use Rattle.reader.proofs.open_chunks.Tie as tie
 
-returns-3 : tie.Need-returns-3
+returns-3 : tie.Need-returns
 returns-3 c =
     let o = c.open-parts.ensures in
     (search (rules, chunks, spots, o), (search (rules, chunks, spots, o), search (rules, chunks, spots, o)))

@@ -6,7 +6,7 @@ use borrow.Author.Rules.{rules}
 use Rattle.reader.proofs.open_parts.Statement.{statement}
 use Rattle.reader.proofs.open_parts.Tie as tie
 
-returns : tie.Need-returns
+returns : tie.Need-returns-then-not-has_list
 returns c =
     let o = c.opened-by.ensures in
     let u = c.before.before.before.read-parts.ensures in
@@ -14,7 +14,7 @@ returns c =
     let t = c.before.if1.true in
     (untitled-told _ _ u h t o.0, (untitled-spot _ _ u h t sound_place o.1.0, untitled-spot _ _ u h t titles_place o.1.1))
 
-returns-2 : tie.Need-returns-2
+returns-2 : tie.Need-returns
 returns-2 c =
     let o = c.opened-by2.ensures in
     let u = c.before.read-titles.ensures in

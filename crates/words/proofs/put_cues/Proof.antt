@@ -7,16 +7,16 @@ use Rattle.words.proofs.Laws.{entering}
 use Rattle.words.proofs.put_cues.Statement.{statement}
 use Rattle.words.proofs.put_cues.Tie as tie
 
-abbrev invariant-loop : tie.invariant-loop
-invariant-loop out₀ at list i₀ out i = Entered cue_words 3 list 64 i at out out₀
+abbrev invariant-loop-i : tie.invariant-loop-i
+invariant-loop-i out₀ at list i₀ out i = Entered cue_words 3 list 64 i at out out₀
 
-abbrev decreases-loop : tie.decreases-loop
-decreases-loop out₀ at list i₀ out i = 64 - i
+abbrev decreases-loop-i : tie.decreases-loop-i
+decreases-loop-i out₀ at list i₀ out i = 64 - i
 
 pub put_cues_spec : {M : Type 1} → statement M
 put_cues_spec =
     tie.close
-    (tie.spec invariant-loop decreases-loop (λ c. search (rules, entering)) (λ c. search (rules, entering))
+    (tie.spec invariant-loop-i decreases-loop-i (λ c. search (rules, entering)) (λ c. search (rules, entering))
     (λ c. search (rules, entering)) (λ c. search (rules, entering)) (λ c. search (rules, entering))
     (λ c κs. search (rules, entering)) (λ c. search (rules, entering)) (λ c. search (rules, entering))
     (λ c. search (rules, entering)) (λ c. search (rules, entering)) (λ c. search (rules, entering)))

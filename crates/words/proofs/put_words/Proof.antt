@@ -6,16 +6,16 @@ use Rattle.little.proofs.Filling.{Written, copying}
 use Rattle.words.proofs.put_words.Statement.{statement}
 use Rattle.words.proofs.put_words.Tie as tie
 
-abbrev invariant-loop : tie.invariant-loop
-invariant-loop out₀ at words i₀ out i = Written words at i out out₀
+abbrev invariant-loop-i : tie.invariant-loop-i
+invariant-loop-i out₀ at words i₀ out i = Written words at i out out₀
 
-abbrev decreases-loop : tie.decreases-loop
-decreases-loop out₀ at words i₀ out i = length words - i
+abbrev decreases-loop-i : tie.decreases-loop-i
+decreases-loop-i out₀ at words i₀ out i = length words - i
 
 pub put_words_spec : {M : Type 1} → statement M
 put_words_spec =
     tie.close
-    (tie.spec invariant-loop decreases-loop (λ c. search (rules, copying)) (λ c. search (rules, copying))
+    (tie.spec invariant-loop-i decreases-loop-i (λ c. search (rules, copying)) (λ c. search (rules, copying))
     (λ c. search (rules, copying)) (λ c. search (rules, copying)) (λ c. search (rules, copying))
     (λ c. search (rules, copying)) (λ c. search (rules, copying)) (λ c. search (rules, copying))
     (λ c. search (rules, copying)) (λ c. search (rules, copying)) (λ c. search (rules, copying)))

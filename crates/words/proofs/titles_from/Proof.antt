@@ -7,16 +7,16 @@ use Rattle.words.proofs.Laws.{listing}
 use Rattle.words.proofs.titles_from.Statement.{statement}
 use Rattle.words.proofs.titles_from.Tie as tie
 
-abbrev invariant-loop : tie.invariant-loop
-invariant-loop words list₀ i₀ list i = Listed (titles_from words) (λ k. title_from words (394 + 4 * k)) 128 i list
+abbrev invariant-loop-i : tie.invariant-loop-i
+invariant-loop-i words list₀ i₀ list i = Listed (titles_from words) (λ k. title_from words (394 + 4 * k)) 128 i list
 
-abbrev decreases-loop : tie.decreases-loop
-decreases-loop words list₀ i₀ list i = 128 - i
+abbrev decreases-loop-i : tie.decreases-loop-i
+decreases-loop-i words list₀ i₀ list i = 128 - i
 
 pub titles_from_spec : {M : Type 1} → statement M
 titles_from_spec =
     tie.close
-    (tie.spec invariant-loop decreases-loop (λ c κs. search rules) (λ c. search (rules, listing))
+    (tie.spec invariant-loop-i decreases-loop-i (λ c κs. search rules) (λ c. search (rules, listing))
     (λ c. search (rules, listing)) (λ c. search (rules, listing)) (λ c κs. search (rules, listing))
     (λ c. search (rules, listing)) (λ c. search (rules, listing)) (λ c. search (rules, listing))
     (λ c. search (rules, listing)) (λ c. search (rules, listing)) (λ c. search (rules, listing)))
