@@ -6,7 +6,7 @@ use Rattle.reader.proofs.open_chunks.Tie as tie
 
 returns-3 : tie.Need-returns
 returns-3 c =
-    let o = c.open-parts.ensures in
+    let o = c.open_parts.ensures in
     (search (rules, chunks, spots, o), (search (rules, chunks, spots, o), search (rules, chunks, spots, o)))
 
 pub open_chunks_spec : {M : Type 1} → statement M

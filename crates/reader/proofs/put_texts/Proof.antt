@@ -11,7 +11,6 @@ put_texts_spec =
     (λ c. search (rules, texting))
     (λ c κs. search (rules, texting))
     (λ c. search (rules, texting))
-    (λ c. search (rules, texting))
     (λ c κs. search (rules, texting))
     (λ c κs. search (rules, texting))
     (λ c κs. search (rules, texting))

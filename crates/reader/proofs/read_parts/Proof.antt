@@ -7,7 +7,5 @@ use Rattle.reader.proofs.read_parts.Tie as tie
 pub read_parts_spec : {M : Type 1} → statement M
 read_parts_spec =
     tie.close
-    (tie.spec (λ c. search rules) (λ c κs. search rules) (λ c. search rules) (λ c κs. search rules)
-    (λ c κs. search rules) (λ c. search rules) (λ c. search rules) (λ c κs. search rules) (λ c. search rules)
-    (λ c κs. search rules) (λ c. search rules) (λ c κs. search rules) (λ c κs. search (rules, parts))
-    (λ c. search (rules, parts)))
+    (tie.spec (λ c κs. search rules) (λ c κs. search rules) (λ c κs. search rules) (λ c κs. search rules)
+    (λ c κs. search rules) (λ c κs. search rules) (λ c κs. search (rules, parts)) (λ c. search (rules, parts)))

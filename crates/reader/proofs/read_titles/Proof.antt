@@ -13,7 +13,6 @@ read_titles_spec =
     (λ c. search (rules, titling))
     (λ c κs. search (rules, titling))
     (λ c. search (rules, titling))
-    (λ c. search (rules, titling))
     (λ c κs. search (rules, titling))
     (λ c κs. search (rules, titling))
     (λ c κs. search (rules, titling))
