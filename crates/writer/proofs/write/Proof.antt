@@ -8,6 +8,6 @@ use Rattle.writer.proofs.write.Tie as tie
 pub write_spec : {M : Type 1} → statement M
 write_spec =
     tie.close
-    (tie.spec (λ c κs. search (rules, one-part, record-typed)) (λ c. search (rules, one-part, record-typed))
+    (tie.spec (λ c κs. search (rules, one-part, record-typed))
     (λ c κs. search (rules, one-part, record-typed)) (λ c. search (rules, one-part, record-typed))
     (λ c. search (rules, one-part, record-typed)))

@@ -6,10 +6,10 @@ use borrow.Author.Rules.{rules}
 use Rattle.writer.proofs.write_joined.Statement.{statement}
 use Rattle.writer.proofs.write_joined.Tie as tie
 
-returns : tie.Need-returns
+returns : tie.Need-returns-in_default
 returns c = (search (rules, answering), (search (rules, answering), search (rules, record-typed)))
 
-returns-2 : tie.Need-returns-2
+returns-2 : tie.Need-returns
 returns-2 c = (search (rules, answering), (search (rules, answering), search (rules, record-typed)))
 
 pub write_joined_spec : {M : Type 1} → statement M
