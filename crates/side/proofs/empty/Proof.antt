@@ -7,6 +7,5 @@ use Rattle.side.proofs.empty.Tie as tie
 pub empty_spec : {M : Type 1} → statement M
 empty_spec =
     tie.close
-    (tie.spec (λ c. search (rules, emptying)) (λ c κs. search (rules, emptying)) (λ c. search (rules, emptying))
-    (λ c. search (rules, emptying)) (λ c κs. search (rules, emptying)) (λ c. search (rules, emptying))
-    (λ c. search (rules, emptying)))
+    (tie.spec (λ c. search (rules, emptying)) (λ c κs. search (rules, emptying)) (λ c κs. search (rules, emptying))
+    (λ c. search (rules, emptying)) (λ c. search (rules, emptying)))

@@ -7,6 +7,5 @@ use Rattle.side.proofs.grow_files.Tie as tie
 pub grow_files_spec : {M : Type 1} → statement M
 grow_files_spec =
     tie.close
-    (tie.spec (λ c. search (rules, files-read)) (λ c κs. search (rules, files-read))
-    (λ c. search (rules, files-read)) (λ c κs. search (rules, files-read)) (λ c κs. search (rules, files-read))
+    (tie.spec (λ c κs. search (rules, files-read)) (λ c κs. search (rules, files-read)) (λ c κs. search (rules, files-read))
     (λ c. search (rules, files-read)))

@@ -10,8 +10,6 @@ returns c = (search (rules, files-joined), search (rules, files-joined))
 pub join_files_spec : {M : Type 1} → statement M
 join_files_spec =
     tie.close
-    (tie.spec (λ c. search (rules, files-joined)) (λ c κs. search (rules, files-joined))
-    (λ c. search (rules, files-joined)) (λ c κs. search (rules, files-joined))
-    (λ c. search (rules, files-joined)) (λ c κs. search (rules, files-joined))
+    (tie.spec (λ c κs. search (rules, files-joined)) (λ c κs. search (rules, files-joined))
     (λ c κs. search (rules, files-joined)) (λ c κs. search (rules, files-joined))
-    (λ c. search (rules, files-joined)) returns)
+    (λ c κs. search (rules, files-joined)) (λ c. search (rules, files-joined)) returns)
