@@ -7,6 +7,6 @@ use Rattle.wave_c.proofs.put_start.Tie as tie
 pub put_start_spec : {M : Type 1} → statement M
 put_start_spec =
     tie.close
-    (tie.spec (λ c κs. search (rules, rooming)) (λ c. search (rules, rooming)) (λ c. search (rules, rooming))
+    (tie.spec (λ c κs. search (rules, rooming)) (λ c. search (rules, rooming))
     (λ c κs. search (rules, rooming)) (λ c κs. search (rules, rooming)) (λ c. search (rules, rooming))
     (λ c κs. search (rules, rooming)) (λ c. search (rules, rooming)) (λ c. search (rules, rooming)))

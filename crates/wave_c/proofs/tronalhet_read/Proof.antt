@@ -4,10 +4,10 @@ use borrow.Author.Rules.{rules}
 use Rattle.wave_c.proofs.tronalhet_read.Statement.{statement}
 use Rattle.wave_c.proofs.tronalhet_read.Tie as tie
 
-returns : tie.Need-returns
+returns : tie.Need-returns-in-Refused
 returns c = (search (rules, record-read), (search (rules, record-read), search (rules, record-read)))
 
-returns-2 : tie.Need-returns-2
+returns-2 : tie.Need-returns-in-Accepted
 returns-2 c = (search (rules, record-read), (search (rules, record-read), search (rules, record-read)))
 
 pub tronalhet_read_spec : {M : Type 1} → statement M
