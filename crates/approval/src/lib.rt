@@ -1,4 +1,6 @@
 // The approval copy that a donor gets: the record of its file, a sound in IMA blocks.
+#![tactic(auto)]
+
 ghost use Rattle.std.specs.Prelude.{◌≡◌};
 ghost use Rattle.approval.specs.Approval.{approval_record};
 

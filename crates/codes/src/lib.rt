@@ -1,5 +1,7 @@
 // The four-byte codes of a WAVE file: the one test whether a code stands at a place, and the one that
 // puts it there.
+#![tactic(auto)]
+
 ghost use Rattle.std.specs.Prelude.{◌≡◌, ◌+◌, ◌≤◌, length};
 ghost use Rattle.little.specs.Numbers.{number_in};
 ghost use Rattle.little.specs.Writing.{Put};

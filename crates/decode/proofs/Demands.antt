@@ -25,7 +25,7 @@ use Rattle.reader.proofs.Kept.{content-kept}
 use Rattle.sound_data.specs.Sound.{block_valid, block_count, block_at, has_block, whole_sound, data_valid}
 use Rattle.sound_data.proofs.Pcm.{eight-whole, sixteen-whole}
 use Rattle.sound_data.proofs.Whole.{whole_long, block-long, block-of-whole}
-use Rattle.decode.specs.declared.Decoded.TheVariants.{Frames, Refused}
+use Rattle.decode.specs.declared.Decoded.TheVariants.{Frames}
 use Rattle.decode.specs.Decoding.{whole_checks, whole_verdict, block_checks, block_verdict, decoded_by, whole_answer, block_answer, decoding, block_decoding, content_sound, content_block, file_sound, file_block, decoded_frames, decoded_number}
 use Rattle.decode.specs.Demands.{Told, WholeTold, BlockTold, OneOfAll, PcmSound, DecodeNumbered, BlockNumbered}
 use Rattle.decode.proofs.Checks.{part-counted, part-adpcm}

@@ -1,6 +1,8 @@
 // Decoding: the sound of a whole file in any of the three formats, or of one ADPCM block of it.
 //
 // All checks come before the first store, so that a refusal leaves the lent buffer as it was.
+#![tactic(auto)]
+
 ghost use Rattle.std.specs.Prelude.{◌≡◌, true, ◌<◌, length};
 ghost use Rattle.little.specs.Writing.{holding};
 ghost use Rattle.formats.specs.Format.{format_rule};

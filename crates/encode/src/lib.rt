@@ -1,4 +1,6 @@
 // Encoding: a whole sound as IMA blocks, and how many samples of each channel are chased.
+#![tactic(auto)]
+
 ghost use Rattle.std.specs.Prelude.{◌≡◌, ◌*◌, ◌%◌, ◌≤◌, length};
 ghost use Rattle.little.specs.Writing.{front, holding};
 ghost use Rattle.units.specs.declared.Verdict.TheVariants.{Accepted};

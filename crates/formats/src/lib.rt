@@ -3,6 +3,8 @@
 //
 // What a chunk says is a total value of its bytes. What it must keep is split in two: its form, of
 // the bytes alone, and its rule, of the value; a writer needs the rule and not the form.
+#![tactic(auto)]
+
 ghost use Rattle.std.specs.Prelude.{◌≡◌, true, ◌||◌, ◌++◌, ◌+◌, ◌*◌, ◌/◌, ◌%◌, ◌≤◌, ◌<◌, eqb, pos, length, get_or};
 ghost use Rattle.little.specs.Numbers.{bytes_of};
 ghost use Rattle.little.specs.Writing.{Put};

@@ -3,6 +3,8 @@
 // A block is four bytes of each channel in turn, first each channel's header and then its codes. A
 // byte has two codes, and so two frames of its channel; in stereo a byte of each channel has four
 // samples that follow each other in the output.
+#![tactic(auto)]
+
 ghost use Rattle.std.specs.Prelude.{◌≡◌, [], ◌∷◌, ◌+◌, ◌*◌, ◌%◌, ◌≤◌, ◌<◌, length, drop, get_or};
 ghost use Rattle.little.specs.Writing.{Put};
 ghost use Rattle.lists.specs.Turns.{in_turn};

@@ -1,4 +1,6 @@
 // One IMA code: the steps, what a code does to a channel, and the code of a sample.
+#![tactic(auto)]
+
 ghost use Rattle.std.specs.Prelude.{◌≡◌, cond, ◌+◌, ◌-◌, ◌*◌, ◌≤◌, ◌<◌, ltb, leb, pos, nat_abs, ◌+ℤ◌, ◌-ℤ◌};
 ghost use Rattle.samples.specs.Sound.{hold};
 ghost use Rattle.ima_code.specs.Code.{IsSteps, IsHeld, step_at, difference_size, signed_by, index_from, after_code, bits_for, code_for, tracked, is_chased};

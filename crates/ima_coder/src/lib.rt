@@ -3,6 +3,8 @@
 // A block is coded in order of the output: in mono all bytes of the one channel, in stereo four bytes
 // of each channel in turn. Where a last short block runs past the sound, each channel's last sample
 // is coded again and again; that fill is not counted.
+#![tactic(auto)]
+
 ghost use Rattle.std.specs.Prelude.{◌≡◌, cond, ◌&&◌, [], ◌∷◌, ◌++◌, ◌+◌, ◌-◌, ◌*◌, ◌/◌, ◌≤◌, ◌<◌, min, length};
 ghost use Rattle.little.specs.Writing.{Put};
 ghost use Rattle.lists.specs.Turns.{in_turn};

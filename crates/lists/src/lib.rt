@@ -1,5 +1,7 @@
 // Where a number stands among others, whether numbers differ, and the tests of a whole range one
 // after the other.
+#![tactic(auto)]
+
 ghost use Rattle.std.specs.Prelude.{◌≡◌, ◌≤◌, length};
 ghost use Rattle.lists.specs.Among.{index_in, distinct};
 ghost use Rattle.lists.specs.Every.{all_below};

@@ -3,6 +3,8 @@
 //
 // `u16_at` and `u32_at` are for callers that have tested the room; `u16_or_zero` and `u32_or_zero`
 // take every place, and what lies past the end counts as 0.
+#![tactic(auto)]
+
 ghost use Rattle.std.specs.Prelude.{◌≡◌, ◌+◌, ◌≤◌, ◌<◌, min, length, take, drop, get_or};
 ghost use Rattle.little.specs.Numbers.{number_at, bytes_of};
 ghost use Rattle.little.specs.Writing.{Put};

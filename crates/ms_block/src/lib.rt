@@ -3,6 +3,8 @@
 //
 // A block is the headers of the channels and behind them the nibbles, of each channel in turn. In mono a
 // byte has two frames, in stereo one.
+#![tactic(auto)]
+
 ghost use Rattle.std.specs.Prelude.{◌≡◌, [], ◌∷◌, ◌+◌, ◌*◌, ◌≤◌, ◌<◌, length, drop, get_or};
 ghost use Rattle.little.specs.Writing.{Put};
 ghost use Rattle.lists.specs.Turns.{in_turn};

@@ -1,4 +1,6 @@
 // One Microsoft nibble: what it does to a channel.
+#![tactic(auto)]
+
 ghost use Rattle.std.specs.Prelude.{◌≡◌, ◌≤◌, ◌<◌, nat_abs};
 ghost use Rattle.ms_code.specs.Nibble.{IsFactors, Tame, signed_nibble, predicted, held_delta, after_nibble};
 

@@ -14,7 +14,7 @@ use Rattle.units.specs.Checks.{number_or}
 use Rattle.rules.specs.declared.Reading.{Reading}
 use Rattle.rules.specs.Rules.{turned_away}
 use Rattle.reader.specs.Content.{reading, texts_in, reading_in}
-use Rattle.reader.specs.Demands.{Refusing, RoomNumbered, number_within}
+use Rattle.reader.specs.Demands.{Refusing, RoomNumbered}
 use Rattle.reader.specs.Promise.{ReadPromise, OneReading, OneSound}
 use Rattle.reader.proofs.Titles.{read-refused}
 

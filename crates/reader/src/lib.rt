@@ -1,6 +1,8 @@
 // Reading a WAVE file: its record, the texts of its titles, and its sound as that very part of the file.
 //
 // The cost goes by the number of chunks and of titles; the sound is not looked at.
+#![tactic(auto)]
+
 ghost use Rattle.std.specs.Prelude.{◌≡◌, ◌+◌, ◌≤◌, true, cond, leb, length};
 ghost use Rattle.units.specs.Refusals.{file_limit};
 ghost use Rattle.units.specs.declared.Verdict.TheVariants.{Accepted};

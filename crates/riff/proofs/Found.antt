@@ -15,7 +15,7 @@ use Rattle.codes.proofs.Laws.{laid_code, stands}
 use Rattle.codes.specs.declared.Code.{Code}
 use Rattle.codes.specs.declared.Code.TheVariants as code
 use Rattle.riff.specs.declared.Kind.{Kind}
-use Rattle.riff.specs.declared.Kind.TheVariants.{Format, Sound, Fact, Cues, Plays, Titles, Listing, Other}
+use Rattle.riff.specs.declared.Kind.TheVariants.{Format, Sound, Fact, Cues, Plays, Titles, Other}
 use Rattle.riff.specs.Chunks.{size_at, list_kind, kind_at}
 use Rattle.riff.specs.Laying.{piece, head_bytes, pad_bytes, piece_bytes}
 use Rattle.riff.proofs.Laying.{length-head, length-pad, length-piece}

@@ -3,6 +3,8 @@
 // written.
 //
 // A step of the walk is a chunk's place or the refusal that ends the walk.
+#![tactic(auto)]
+
 ghost use Rattle.std.specs.Prelude.{◌≡◌, ◌+◌, ◌≤◌, min, length};
 ghost use Rattle.little.specs.Writing.{Put};
 ghost use Rattle.riff.specs.Chunks.{head_verdict, list_kind, kind_at, pad_after, pad_size, place_at, is_there, pad_lost, spot_of, early, starts_as_waves, wave_list, chunk_at, directory, is_kept, keep_titles, keep};

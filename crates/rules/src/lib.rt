@@ -2,6 +2,8 @@
 //
 // Everything here goes by the bytes of the chunks, wherever they stood in a file; a record to be written
 // is judged by the same rules. The list of titles is judged elsewhere; the record has room for it.
+#![tactic(auto)]
+
 ghost use Rattle.std.specs.Prelude.{◌≡◌, ◌<◌};
 ghost use Rattle.formats.specs.Format.{format_of};
 ghost use Rattle.rules.specs.Rules.{format_valid, fact_valid, cues_valid, plays_valid, verdict_of, record_verdict};

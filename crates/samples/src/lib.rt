@@ -1,5 +1,7 @@
 // 16-bit sound: a sample from its two bytes and back, 8-bit sound, holding a wider number to 16
 // bits, and the loops that turn the bytes of PCM sound into samples and samples into bytes.
+#![tactic(auto)]
+
 ghost use Rattle.std.specs.Prelude.{◌≡◌, [], ◌∷◌, map, ◌+◌, ◌*◌, ◌/◌, ◌≤◌, length, take, drop};
 ghost use Rattle.little.specs.Writing.{Put, front};
 ghost use Rattle.samples.specs.Sound.{signed_of, bits_of, sample_at, sample_bytes, samples_in, sound_bytes, eight, hold};

@@ -3,6 +3,8 @@
 // A side is one WAVE file with a cue point and a playlist entry for each song. A number that is listed is
 // never added again, and the songs that are there stay as they are. All is settled before the first store.
 // The sound is copied once; it is looked at only where the number is listed.
+#![tactic(auto)]
+
 ghost use Rattle.std.specs.Prelude.{◌≡◌, true, ◌&&◌, [], ◌++◌, ◌+◌, ◌≤◌, ◌<◌, min, eqb, length, take, get_or};
 ghost use Rattle.units.specs.Checks.{decided};
 ghost use Rattle.little.specs.Writing.{holding};

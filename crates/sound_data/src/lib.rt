@@ -3,6 +3,8 @@
 //
 // ADPCM data are decoded block after block. PCM data have no blocks to speak of: a block is one frame, and
 // the samples are turned all in one go.
+#![tactic(auto)]
+
 ghost use Rattle.std.specs.Prelude.{◌≡◌, true, false, ◌+◌, ◌*◌, ◌≤◌, ◌<◌, min, length};
 ghost use Rattle.little.specs.Writing.{Put, front};
 ghost use Rattle.ima_code.specs.Code.{IsSteps};

@@ -2,6 +2,8 @@
 // as they are written.
 //
 // As in `formats`, a chunk has a value, a form and a rule.
+#![tactic(auto)]
+
 ghost use Rattle.std.specs.Prelude.{◌≡◌, map, ◌++◌, ◌+◌, ◌*◌, ◌%◌, ◌≤◌, ◌<◌, length, take, replicate};
 ghost use Rattle.little.specs.Numbers.{bytes_of};
 ghost use Rattle.little.specs.Writing.{Put};

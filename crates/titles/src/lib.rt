@@ -2,6 +2,8 @@
 // texts, one after the other; and the list as it is written.
 //
 // The text of a title stands in some bytes: in the list itself, or in a lent buffer of texts.
+#![tactic(auto)]
+
 ghost use Rattle.std.specs.Prelude.{◌≡◌, true, false, [], ◌++◌, ℕ, ◌+◌, ◌-◌, ◌%◌, ◌≤◌, ◌<◌, length, take, drop, get_or, replicate};
 ghost use Rattle.units.specs.Refusals.{file_limit};
 ghost use Rattle.little.specs.Numbers.{bytes_of};

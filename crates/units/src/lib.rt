@@ -3,6 +3,8 @@
 // A count of frames, a place in bytes, the number of a donated song and a place among the texts of
 // titles are four types, so that none is taken for another. A refusal has the number of document 01's
 // table, and `number` is the one place that says which.
+#![tactic(auto)]
+
 ghost use Rattle.std.specs.Prelude.{◌≡◌};
 ghost use Rattle.units.specs.Refusals.{number_of};
 

@@ -2,6 +2,7 @@
 //
 // Every operation takes every input and ends. Where it refuses, every lent buffer holds what it held
 // before. What each one promises stands in docs/PROMISES.md, with the definitions that say it.
+#![tactic(auto)]
 
 // ---- units: frames, bytes of a file, bytes of texts and donation numbers are never taken for one another
 

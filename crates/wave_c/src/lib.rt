@@ -1,5 +1,7 @@
 // The C interface of the library: its operations over numbers and lent buffers, as include/tronalhet.h
 // declares them. A refusal is its number, and 0 is success.
+#![tactic(auto)]
+
 ghost use Rattle.std.specs.Prelude.{◌≡◌, [], ◌∷◌, length};
 ghost use Rattle.units.specs.Refusals.{number_of, verdict_number};
 ghost use Rattle.reader.specs.Content.{reading, sound_in, sound_start, titles_spot, texts_in};

@@ -1,6 +1,8 @@
 // A record as 906 words of 32 bits, as it travels through the C interface: tag, channels, rate, bits,
 // align, samples per block, frames, number of cues, number of entries; 64 cues of three words each, and
 // 64 entries of three words each; number of titles, and 128 titles of four words each.
+#![tactic(auto)]
+
 ghost use Rattle.std.specs.Prelude.{◌≡◌, true, ◌++◌, ◌+◌, ◌*◌, ◌≤◌, ◌<◌, length, replicate};
 ghost use Rattle.little.specs.Writing.{Put, front};
 ghost use Rattle.tables.specs.Bytes.{entry_bytes};

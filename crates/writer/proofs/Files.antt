@@ -16,7 +16,6 @@ use Rattle.codes.specs.declared.Code.TheVariants as code
 use Rattle.riff.specs.Laying.{Part, Piece, piece, piece_bytes, part_bytes, body_bytes, riff_bytes, given, pieces_of, file_bytes}
 use Rattle.riff.proofs.Laying.{length-file}
 use Rattle.formats.specs.Format.{format_rule}
-use Rattle.tables.specs.declared.Playlist.{Playlist}
 use Rattle.tables.specs.Cues.{names_in}
 use Rattle.titles.specs.declared.Title.{Title}
 use Rattle.titles.specs.Writing.{titles_right, Short}

@@ -3,6 +3,8 @@
 //
 // All is settled before the first store, so that a refusal leaves the lent buffer as it was. The sound,
 // which may come in two parts, is copied once and not looked at.
+#![tactic(auto)]
+
 ghost use Rattle.std.specs.Prelude.{◌≡◌, true, cond, ◌++◌, ◌+◌, ◌≤◌, length};
 ghost use Rattle.units.specs.Refusals.{file_limit};
 ghost use Rattle.codes.specs.declared.Code.TheVariants as code;
