@@ -101,7 +101,8 @@ def library_note():
     """What the report must say of the library's age. It is never built here, since others may be at work in target/."""
     if not ARCHIVE.exists():
         raise Trouble('the library is not built: `host/build library` makes target/staticlib/libwave_c.a')
-    sources = [ROOT / 'crates.txt', *(path for path in (ROOT / 'crates').rglob('*') if path.is_file())]
+    sources = [ROOT / 'crates.txt', *(path for path in (ROOT / 'crates').rglob('*')
+                                      if path.is_file() and 'out' not in path.relative_to(ROOT).parts)]
     if ARCHIVE.stat().st_mtime >= max(source.stat().st_mtime for source in sources):
         return []
     note = 'The library that was measured is older than its sources: `host/build library` builds it anew.'

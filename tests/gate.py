@@ -3,6 +3,7 @@
 
     tests/gate.py layout            each folder of crates/ has its line in crates.txt, each library that has definitions
                                     has at least two wrong programs, and each edit is laid out as is said below
+    tests/gate.py ci                by what `rt ci` has printed, on standard input: it refused each edit of must-fail/
     tests/gate.py edits             each wrong program of must-fail/ is refused because a fact fails
     tests/gate.py all [CRATE..]     the same of must-fail/ and must-fail-more/, of all crates or of these
 
@@ -115,6 +116,20 @@ def misplaced(root):
         if (crate / 'src' / 'lib.rt').exists() and any(crate.glob('specs/*.antt')) and few:
             wrong.append(f'crates/{crate.name} has definitions and fewer than two wrong programs')
     return wrong
+
+
+# ---- what `rt ci` says of all edits
+
+def lacking(root, lines):
+    """What the line on which `rt ci` says that all is well lacks: an edit that is bad, which means that it cannot be
+    applied or read, fails nothing there."""
+    count = len(list((root / 'crates').glob('*/must-fail/*.edit')))
+    said = next((line for line in lines if line.startswith('rt: ok')), 'rt ci does not say that all is well')
+    refused = re.search(r'; must-fail edits: (\d+) refused\b', said)
+    bad = re.search(r', (\d+) bad\b', said)
+    if not refused or int(refused[1]) != count or bad and int(bad[1]):
+        return [f'there are {count} edits, and each must be refused: {said}']
+    return []
 
 
 # ---- each edit is tried
@@ -271,6 +286,8 @@ def main(words, root=ROOT):
     """Prints what is wrong; the exit status is 1 where anything is."""
     if words == ['layout']:
         wrong = unlisted(root) + misplaced(root)
+    elif words == ['ci']:
+        wrong = lacking(root, sys.stdin.read().splitlines())
     elif words == ['edits']:
         wrong = unfit_edits(root, FOLDERS[:1], listed(root))
     elif words[:1] == ['all'] and set(words[1:]) <= set(listed(root)):

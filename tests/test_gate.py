@@ -108,6 +108,21 @@ class Gate(unittest.TestCase):
         (self.root / 'crates/song/must-fail-more/lost.edti').touch()
         self.assertIn('must-fail-more/lost.edti is no edit', self.said('layout'))
 
+    def ci(self, *lines):
+        """What the check prints of what `rt ci` has printed."""
+        with mock.patch('sys.stdin', io.StringIO('\n'.join(['== song', *lines, '1 passed, 0 failed', '']))):
+            return self.said('ci')
+
+    def test_what_rt_ci_says_of_the_edits(self):
+        for said in ('2 refused; every proof and must-fail edit was done in this run', '2 refused, 0 bad; done in this run',
+                     '2 refused, 1 of them only by a limit; done in this run'):
+            self.assertEqual(self.ci(f'rt: ok; handles allowed: none; must-fail edits: {said}'), '')
+        for said in ('1 refused, 1 bad; done in this run', '2 refused, 1 bad; done', '1 refused; done', '12 refused; done',
+                     '2 refused, 1 of them only by a limit, 1 bad; done'):
+            self.assertIn('there are 2 edits', self.ci(f'rt: ok; handles allowed: none; must-fail edits: {said}'))
+        self.assertIn('there are 2 edits', self.ci('rt: ok; handles allowed: none; every proof was done in this run'))
+        self.assertIn('rt ci does not say that all is well', self.ci('rt: note: must-fail edits: 2 refused'))
+
     def test_a_static_library_is_listed_by_its_name(self):
         (self.root / 'crates.txt').write_text('song staticlib: io\n')
         self.assertEqual(self.said('layout'), '')

@@ -18,15 +18,17 @@ from trying import ROOT, expect, run, start
 # Each writes down when it begins and ends. What they make is the same each time.
 TOOLS = {
     'uname': 'echo x86_64\n',
-    'rt': '''echo "rt $*" >>"$LOG"
+    'rt': '''crate=${PWD##*/}
+echo "rt $* in $crate" >>"$LOG"
 [ -z "${RT_TOUCHES-}" ] || touch "$RT_TOUCHES"
-[ "${FAILS-}" != rt ] || { echo 'rt: samples NOT PROVED (exit 1, 1 s)'; exit 1; }
-if [ "$1" = check ]; then
-    for crate in "${@:2}"; do sleep "${SLOW-0}"; echo "rt: $crate proved (1 s)"; done
+[ "${FAILS-}" != rt ] || { echo "fn $crate::song: not proved"; echo logic=not-proved; exit 1; }
+mkdir -p out/rlib
+if [ "$crate" = wave_c ]; then
+    sleep "${LAST-0}" && echo library >out/libwave_c.a
 else
-    echo 'rt: little proved (unchanged since it was last proved)'
-    sleep "${LAST-0}" && mkdir -p target/staticlib && echo library >target/staticlib/libwave_c.a
+    sleep "${SLOW-0}" && touch out/rlib/stamp
 fi
+echo "logic=proved functions=2"
 echo end >>"$LOG"
 ''',
     'cargo': '''echo cargo >>"$LOG"
@@ -51,10 +53,10 @@ units:
 samples: little
 show: little
 wave: units samples
-wave_c: units wave
+wave_c staticlib: units wave
 side_add: wave show
 '''
-NEEDED = ['little', 'samples', 'units', 'wave']
+NEEDED = ['little', 'units', 'samples', 'wave']
 # What the library is made of, and other sources.
 LIBRARY = [*(f'crates/{name}/src/lib.rt' for name in (*NEEDED, 'wave_c')), 'crates.txt']
 OTHERS = ['crates/units/must-fail/zero.edit', 'crates/show/src/lib.rt', 'crates/side_add/data/x', 'include/tronalhet.h',
@@ -102,10 +104,10 @@ def done(folder):
     log = folder / 'log'
     lines = log.read_text().splitlines() if log.exists() else []
     log.unlink(missing_ok=True)
-    return [sorted(line.split()) if line.startswith('rt check') else line for line in lines]
+    return lines
 
 
-PROVED = [sorted(['rt', 'check', *NEEDED]), 'end', 'rt staticlib wave_c', 'end']
+PROVED = [line for crate in NEEDED for line in (f'rt lib in {crate}', 'end')] + ['rt lib --cpu=x86-64 in wave_c', 'end']
 BUILT = ['cargo', 'end']
 
 
@@ -198,6 +200,11 @@ def built_again():
             wanted = PROVED + BUILT if source in (*LIBRARY, 'crates/units/src') else BUILT
             expect(f'a newer {source}', (status, shown, done(folder)), (0, told(['x']), wanted))
         expect('with nothing newer', (run([folder / 'wave', 'x'], '/', env=around(folder))[2], done(folder)), ('', []))
+        dated(folder, 300)
+        dated(folder, 200, 'target/staticlib/libwave_c.a', 'target/host/release/tronalhet')
+        dated(folder, 100, 'crates/units', 'crates/units/out', 'crates/units/out/rlib', 'crates/units/out/rlib/stamp')
+        expect('what rt makes is no source', (run([folder / 'wave', 'x'], '/', env=around(folder))[2], done(folder)),
+               ('', []))
 
 
 def changed_meanwhile():
@@ -215,7 +222,7 @@ def changed_meanwhile():
 def not_built():
     """Where something is not built, the command is not run, and it is tried again the next time."""
     with clone() as folder:
-        for fails, why in (('rt', ['rt: samples NOT PROVED (exit 1, 1 s)', 'host/build: the library is not proved']),
+        for fails, why in (('rt', ['fn little::song: not proved', 'host/build: the library is not proved']),
                            ('cargo', ['error: no such function', 'host/build: tronalhet was not built'])):
             status, shown, said = run([folder / 'wave', 'x'], '/', env=around(folder, FAILS=fails))
             expect(f'without {fails}', (status, shown, [line for line in why if line not in said],

@@ -1,9 +1,9 @@
 #!/usr/bin/env python3
 """Runs the programs, as `rt` has built them, on input that their stored test does not have.
 
-    python3 -m programs [COUNT [SEED]]      in tests/, after `rt check` or `rt ci`; COUNT generated files are read,
-                                            and a tenth as many sounds coded, files decoded, records written,
-                                            songs added and approval copies made
+    python3 -m programs [COUNT [SEED]]      in tests/, after `rt ci`; COUNT generated files are read, and a tenth
+                                            as many sounds coded, files decoded, records written, songs added and
+                                            approval copies made
 """
 import os
 import subprocess

@@ -1,7 +1,8 @@
 #!/usr/bin/env python3
 """What the programs read and must print in a test, worked out from document 01 and Python's struct.
 
-    python3 -m vectors            in tests/: compares with crates/NAME/stdin, args and stdout
+    python3 -m vectors            in tests/: compares with crates/NAME/stdin, args and stdout, and the files in data/
+                                  with those that they are copies of
     python3 -m vectors --write    writes those files
 
 Nothing here is taken from a run of the programs.
@@ -23,7 +24,7 @@ def vectors():
 
 
 def copied(program, *sources):
-    """The files that a program is run on, and nothing else; elsewhere they are known by these names, as links."""
+    """The files that a program is run on, and nothing else; each is a copy of one that stands elsewhere."""
     there = {path.name: path.read_bytes() for path in (CRATES / program / 'data').iterdir()}
     if there != {path.name: path.read_bytes() for path in sources}:
         raise ValueError(f'the files of {program}/data are not as they stand elsewhere')
@@ -38,6 +39,13 @@ def command(program, work, sources, *more):
     numbers = [word for word in more if isinstance(word, int)]
     lines, _ = second_command.answer(work, *copied(program, *sources), *numbers)
     return b'', ''.join(f'{line}\n' for line in lines), [*(path.name for path in sources), *more]
+
+
+def put_copies():
+    """Puts the files that the programs are run on into their data/."""
+    for program, _, sources, *_ in commands():
+        for path in sources:
+            (CRATES / program / 'data' / path.name).write_bytes(path.read_bytes())
 
 
 def commands():
@@ -60,6 +68,8 @@ def main(words):
     """Compares or writes; the exit status is 1 where something differs."""
     if words not in ([], ['--write']):
         sys.exit(__doc__)
+    if words:
+        put_copies()
     made = programs()
     programs_here = {path.parent.parent.name for path in CRATES.glob('*/src/main.rt')}
     wrong = [f'{name}: nothing here works out what it must print' for name in sorted(programs_here - made.keys())]
