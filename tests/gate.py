@@ -242,7 +242,7 @@ def try_all(root, edits, sum_of_try):
             copies.put(copy)
         log = log_of(root, edit)
         log.parent.mkdir(parents=True, exist_ok=True)
-        log.write_text(f'{total}\n{told}')
+        log.write_text(f'{total or why[edit]}\n{told}')
 
     with tempfile.TemporaryDirectory() as room:
         count = lanes(len(edits))
