@@ -1,40 +1,36 @@
 // What the programs print on standard output: words, numbers and bytes. A program puts a line
-// together of these, one fact to a line.
+// together of these, one fact to a line. A failed write is the answer of each.
+#![tactic(auto)]
+
 ghost use Rattle.std.specs.Prelude.{◌≡◌, ◌<◌};
 ghost use Rattle.show.specs.Mixing.{mixed_with, mixed_from};
 
-use libc::STDOUT_FILENO;
+use std::io;
 
 // Words, as they stand.
-pub fn word(text: &[u8]) {
-    io::write_all(STDOUT_FILENO, text);
+pub fn word(rt: &impl Print, text: &[u8]) -> io::Result<()> {
+    rt.write_all(text)
 }
 
 // The end of a line.
-pub fn line() {
-    io::write_all(STDOUT_FILENO, b"\n");
+pub fn line(rt: &impl Print) -> io::Result<()> {
+    word(rt, b"\n")
 }
 
 // A number in decimal digits.
-pub fn number(value: u64) {
-    io::print_decimal(STDOUT_FILENO, value);
+pub fn number(rt: &impl Print, value: u64) -> io::Result<()> {
+    rt.print(value)
 }
 
 // A name and a number after it.
-pub fn field(name: &[u8], value: u64) {
-    word(name);
-    number(value);
+pub fn field(rt: &impl Print, name: &[u8], value: u64) -> io::Result<()> {
+    word(rt, name)?;
+    number(rt, value)
 }
 
 // A sample in decimal digits, with a minus sign below zero.
-pub fn sample(value: i16) {
-    let wide = value as i32;
-    if wide < 0 {
-        word(b"-");
-        number((0 - wide) as u64);
-        return;
-    }
-    number(wide as u64);
+pub fn sample(rt: &impl Print, value: i16) -> io::Result<()> {
+    rt.print(value)
 }
 
 // A byte as a wider number.
@@ -45,23 +41,21 @@ fn wide(byte: u8) -> u64
 }
 
 // One of two words, and the end of the line.
-pub fn either(first: bool, yes: &[u8], no: &[u8]) {
+pub fn either(rt: &impl Print, first: bool, yes: &[u8], no: &[u8]) -> io::Result<()> {
     if first {
-        word(yes);
+        word(rt, yes)?;
     } else {
-        word(no);
+        word(rt, no)?;
     }
-    line();
+    line(rt)
 }
 
 // Bytes in hexadecimal, each as two digits after a blank.
-pub fn bytes(values: &[u8]) {
-    let mut i = 0;
-    while i < values.len() {
-        word(b" ");
-        io::print_hex(STDOUT_FILENO, wide(values[i]), 2);
-        i += 1;
+pub fn bytes(rt: &impl Print, values: &[u8]) -> io::Result<()> {
+    for byte in values {
+        print!(rt; " {byte:02x}")?;
     }
+    Ok(())
 }
 
 // One number more, mixed into those before it, where they are too many to print. 1,000,003 is a
@@ -79,27 +73,24 @@ pub fn mixed_bytes(values: &[u8]) -> u64
     ensures answer { result ≡ mixed_from 0 values.now }
 {
     let mut mix: u64 = 0;
-    let mut i = 0;
-    while i < values.len() {
-        mix = mixed(mix, wide(values[i]));
-        i += 1;
+    for byte in values {
+        mix = mixed(mix, wide(*byte));
     }
     mix
 }
 
 // How many bytes there are, and a number mixed of them, to the end of the line.
-pub fn mixed_line(values: &[u8]) {
-    field(b"bytes ", values.len() as u64);
-    field(b" mixed ", mixed_bytes(values));
-    line();
+pub fn mixed_line(rt: &impl Print, values: &[u8]) -> io::Result<()> {
+    field(rt, b"bytes ", values.len() as u64)?;
+    field(rt, b" mixed ", mixed_bytes(values))?;
+    line(rt)
 }
 
 // Samples in decimal digits, each after a blank.
-pub fn sound(values: &[i16]) {
-    let mut i = 0;
-    while i < values.len() {
-        word(b" ");
-        sample(values[i]);
-        i += 1;
+pub fn sound(rt: &impl Print, values: &[i16]) -> io::Result<()> {
+    for value in values {
+        word(rt, b" ")?;
+        sample(rt, *value)?;
     }
+    Ok(())
 }
