@@ -1,5 +1,8 @@
 // The words that a program is called with.
-use crate::errors::say;
+ghost use Rattle.std.specs.Prelude.{◌≤◌, length};
+
+use std::env::{Env, FillError};
+use std::io;
 
 // A number that a word says.
 #[derive(Drop)]
@@ -8,42 +11,54 @@ pub enum Said {
     Trouble,
 }
 
+// Puts a word at the start of a lent buffer, and answers how many bytes it has; where there is no such word, or no
+// room for it, it has none.
+pub fn word(rt: &impl Env, i: usize, out: &mut [u8]) -> usize
+    ensures bound { result ≤ length out.new }
+{
+    rt.arg(i, out).unwrap_or(0)
+}
+
+// How many words a program is called with, its own name among them.
+fn word_count(rt: &impl Env) -> usize {
+    for i in 0..usize::MAX {
+        if let Err(FillError::NotPresent) = rt.arg(i, &mut []) {
+            return i;
+        }
+    }
+    usize::MAX
+}
+
 // Says how a program is called.
-fn usage(words: &[u8]) {
-    say(b"usage: ");
-    say(words);
-    say(b"\n");
+fn usage(rt: &impl Eprint, words: &str) -> io::Result<()> {
+    eprintln!(rt; "usage: {words}")
 }
 
 // Whether a program is called with so many words, its own name among them; if not, it says how it is called.
-pub fn called(count: usize, words: &[u8]) -> bool {
-    if os::arg_count() == count {
-        return true;
+pub fn called(rt: &(impl Env + Eprint), count: usize, words: &str) -> io::Result<bool> {
+    if word_count(rt) == count {
+        return Ok(true);
     }
-    usage(words);
-    false
+    usage(rt, words)?;
+    Ok(false)
 }
 
 // The value of a decimal digit; 10 for any other byte.
 fn digit(byte: u8) -> u64 {
-    if byte < b'0' {
-        return 10;
+    match byte {
+        b'0'..=b'9' => (byte - b'0') as u64,
+        _ => 10,
     }
-    if b'9' < byte {
-        return 10;
-    }
-    (byte - b'0') as u64
 }
 
 // The number that decimal digits say, if it is at most 4,294,967,295.
 fn value(text: &[u8]) -> Said {
-    if text.len() == 0 {
+    if text.is_empty() {
         return Said::Trouble;
     }
     let mut sum: u64 = 0;
-    let mut i = 0;
-    while i < text.len() {
-        let next = digit(text[i]);
+    for byte in text {
+        let next = digit(*byte);
         if 9 < next {
             return Said::Trouble;
         }
@@ -51,21 +66,19 @@ fn value(text: &[u8]) -> Said {
         if 4294967295 < sum {
             return Said::Trouble;
         }
-        i += 1;
     }
     Said::Number(sum as u32)
 }
 
 // The number from 0 to the most that a word says; where it says none, the program says how it is called.
-pub fn number(i: usize, most: u32, words: &[u8]) -> Said {
-    let mut text = io::buffer();
-    let n = os::arg(i, &mut text);
-    let found = value(&text[..n]);
-    if let Said::Number(said) = found {
-        if said <= most {
-            return found;
-        }
+pub fn number(rt: &(impl Env + Eprint), i: usize, most: u32, words: &str) -> io::Result<Said> {
+    let mut text = [0u8; 4096];
+    let n = word(rt, i, &mut text);
+    if let Said::Number(said) = value(&text[..n])
+        && said <= most
+    {
+        return Ok(Said::Number(said));
     }
-    usage(words);
-    Said::Trouble
+    usage(rt, words)?;
+    Ok(Said::Trouble)
 }

@@ -1,5 +1,7 @@
 // What the programs on files share: the words that they are called with, a file read whole, a new file written,
 // and how long a file is. Whatever goes wrong is reported in one line on standard error.
+#![tactic(auto)]
+
 mod errors;
 mod given;
 mod reading;
@@ -8,7 +10,7 @@ mod sizes;
 mod writing;
 
 pub use given::{Said, called, number};
-pub use reading::{Input, read};
+pub use reading::{Input, fill, read};
 pub use rooms::{file_room, new_room, sound_room, texts_room};
 pub use sizes::{samples_in, size, too_long};
 pub use writing::write;

@@ -1,5 +1,12 @@
 // Reading a file whole.
+ghost use Rattle.std.specs.Prelude.{◌≤◌, length, IfOk};
+
 use crate::errors::failed;
+use crate::given::word;
+use std::env::Env;
+use std::io::Read;
+use std::rt::Files;
+use std::{fs, io, str};
 
 // How many bytes were read, or that there was an error, which was reported.
 #[derive(Drop)]
@@ -8,33 +15,49 @@ pub enum Input {
     Trouble,
 }
 
-// Reads an open file until it ends or the lent buffer is full.
-fn fill(file: i32, out: &mut [u8]) -> Input {
-    let n = io::read_full(file, out);
-    if n == out.len() {
-        return Input::Bytes(n);
+// Reads until there is no more or the lent buffer is full, and answers how many bytes it put at its start.
+pub fn fill<R: Read>(from: &mut R, out: &mut [u8]) -> io::Result<usize>
+    ensures bound { IfOk result (λ n. n ≤ length out.new) }
+{
+    let mut n = 0;
+    while n < out.len() {
+        let more = from.read(&mut out[n..])?;
+        if more == 0 {
+            break;
+        }
+        n += more;
     }
-    // A read that failed looks like an end: at an end there is nothing more.
-    let mut more = [0u8; 1];
-    if libc::read(file, &mut more) == 0 {
-        return Input::Bytes(n);
+    Ok(n)
+}
+
+// A file's name as the text that the library asks for.
+pub fn name_text(name: &[u8]) -> io::Result<&str> {
+    match str::from_utf8(name) {
+        Ok(text) => Ok(text),
+        Err(_) => Err(io::Error::from(io::ErrorKind::InvalidFilename)),
     }
-    Input::Trouble
+}
+
+// Opens a file and reads it to a lent buffer.
+fn read_file(rt: &impl Files, name: &[u8], out: &mut [u8]) -> io::Result<usize> {
+    let mut file = fs::open(rt, name_text(name)?)?;
+    fill(&mut file, out)
 }
 
 // Reads the file that a word names to a lent buffer, as much of it as there is room for.
-pub fn read(program: &[u8], i: usize, out: &mut [u8]) -> Input {
-    let mut name = io::buffer();
-    let n = os::arg(i, &mut name);
-    let file = os::open_read(&name[..n]);
-    if file < 0 {
-        failed(program, b": cannot read ", &name[..n]);
-        return Input::Trouble;
+pub fn read<R: Files + Env + Eprint + Alloc>(
+    rt: &R,
+    program: &str,
+    i: usize,
+    out: &mut [u8],
+) -> io::Result<Input> {
+    let mut name = [0u8; 4096];
+    let n = word(rt, i, &mut name);
+    match read_file(rt, &name[..n], out) {
+        Ok(size) => Ok(Input::Bytes(size)),
+        Err(error) => {
+            failed(rt, program, "read", &name[..n], error)?;
+            Ok(Input::Trouble)
+        }
     }
-    let input = fill(file, out);
-    if let Input::Trouble = input {
-        failed(program, b": cannot read ", &name[..n]);
-    }
-    libc::close(file);
-    input
 }

@@ -1,25 +1,27 @@
 // How long a file and its sound are.
-ghost use Rattle.std.specs.Prelude.{◌*◌, ◌≤◌, ◌≡◌, ltb};
+ghost use Rattle.std.specs.Prelude.{◌*◌, ◌≤◌, ◌<◌, ◌≡◌, ltb, IfOk, OnErr};
 
+use std::io;
 use units::{Frames, Refusal};
 
 // The most bytes of a file that a program accepts.
 const LIMIT: usize = 262144;
 
 // Whether a file of so many bytes is too long; if so, it is refused.
-pub fn too_long(n: usize) -> bool
-    ensures answer { result ≡ ltb 262144 n }
+pub fn too_long(rt: &impl Print, n: usize) -> io::Result<bool>
+    ensures answer { IfOk result (λ long. long ≡ ltb 262144 n) }
+    ensures err { OnErr result (262144 < n) }
 {
     if LIMIT < n {
-        listing::refused(Refusal::LengthOutOfRange);
+        listing::refused(rt, Refusal::LengthOutOfRange)?;
     }
-    LIMIT < n
+    Ok(LIMIT < n)
 }
 
 // Says how many bytes a file has.
-pub fn size(file: &[u8]) {
-    show::field(b"bytes ", file.len() as u64);
-    show::line();
+pub fn size(rt: &impl Print, file: &[u8]) -> io::Result<()> {
+    show::field(rt, b"bytes ", file.len() as u64)?;
+    show::line(rt)
 }
 
 // How many samples of a sound are so many frames.

@@ -5,74 +5,103 @@
 //
 // SIDE and SONG may have 262,144 bytes each at most; a longer one is `refused 1`. So may the new side, which is
 // to be read again; a new side longer than that is `refused 14`. All is held on the stack, 0.8 MB.
+#![tactic(auto)]
+
 use files::{Input, Said};
+use std::io;
+use std::rt::Runtime;
 use units::BytePlace;
 use wave::{Donation, Frames, Written};
 
 // How it is called.
-const USAGE: [u8; 35] = *b"side_add SIDE SONG NUMBER LIMIT OUT";
+const USAGE: &str = "side_add SIDE SONG NUMBER LIMIT OUT";
 
 // Puts the new side where it is to be, and says what was added.
-fn keep(number: Donation, file: &[u8]) {
-    if !files::write(b"side_add", 5, file) {
-        return;
+fn keep(
+    rt: &impl Runtime,
+    number: Donation,
+    file: &[u8],
+) -> io::Result<()> {
+    if !files::write(rt, "side_add", 5, file)? {
+        return Ok(());
     }
-    show::field(b"added ", number.0 as u64);
-    show::line();
-    files::size(file);
+    show::field(rt, b"added ", number.0 as u64)?;
+    show::line(rt)?;
+    files::size(rt, file)
 }
 
 // Adds a song to a side. The new side has an even number of bytes, so in this room it has 262,144 at most.
-fn add(side: &[u8], song: &[u8], number: Donation, limit: Frames) {
+fn add(
+    rt: &impl Runtime,
+    side: &[u8],
+    song: &[u8],
+    number: Donation,
+    limit: Frames,
+) -> io::Result<()> {
     let mut out = files::file_room();
     match wave::add(side, song, number, limit, &mut out) {
-        Written::Bytes(size) => keep(number, little::bytes_from(&out, BytePlace(0), size)),
-        Written::Refused(refusal) => listing::refused(refusal),
+        Written::Bytes(size) => keep(
+            rt,
+            number,
+            little::bytes_from(&out, BytePlace(0), size),
+        ),
+        Written::Refused(refusal) => listing::refused(rt, refusal),
     }
 }
 
 // Reads the song, and adds it to a side that was read.
-fn add_to(side: &[u8], number: Donation, limit: Frames) {
+fn add_to(
+    rt: &impl Runtime,
+    side: &[u8],
+    number: Donation,
+    limit: Frames,
+) -> io::Result<()> {
     let mut buffer = files::file_room();
-    let Input::Bytes(n) = files::read(b"side_add", 2, &mut buffer) else {
-        return;
+    let Input::Bytes(n) = files::read(rt, "side_add", 2, &mut buffer)? else {
+        return Ok(());
     };
-    if files::too_long(side.len()) {
-        return;
+    if files::too_long(rt, side.len())? {
+        return Ok(());
     }
-    if files::too_long(n) {
-        return;
+    if files::too_long(rt, n)? {
+        return Ok(());
     }
     add(
+        rt,
         side,
         little::bytes_from(&buffer, BytePlace(0), BytePlace(n)),
         number,
         limit,
-    );
+    )
 }
 
 // Reads the side.
-fn start(number: Donation, limit: Frames) {
+fn start(
+    rt: &impl Runtime,
+    number: Donation,
+    limit: Frames,
+) -> io::Result<()> {
     let mut buffer = files::file_room();
-    let Input::Bytes(n) = files::read(b"side_add", 1, &mut buffer) else {
-        return;
+    let Input::Bytes(n) = files::read(rt, "side_add", 1, &mut buffer)? else {
+        return Ok(());
     };
     add_to(
+        rt,
         little::bytes_from(&buffer, BytePlace(0), BytePlace(n)),
         number,
         limit,
-    );
+    )
 }
 
-fn main() {
-    if !files::called(6, &USAGE) {
-        return;
+fn main(rt: HostRuntime) -> io::Result<()> {
+    if !files::called(&rt, 6, USAGE)? {
+        return Ok(());
     }
-    let Said::Number(number) = files::number(3, 4294967295, &USAGE) else {
-        return;
+    let Said::Number(number) = files::number(&rt, 3, 4294967295, USAGE)? else {
+        return Ok(());
     };
-    let Said::Number(limit) = files::number(4, 4294967295, &USAGE) else {
-        return;
+    let Said::Number(limit) = files::number(&rt, 4, 4294967295, USAGE)? else {
+        return Ok(());
     };
-    start(Donation(number), Frames(limit));
+    start(&rt, Donation(number), Frames(limit))
 }

@@ -1,31 +1,36 @@
 // wave_check FILE: prints `accepted`, or `refused` and the number of the refusal.
 //
 // FILE may have 262,144 bytes at most; a longer one is `refused 1`. It is held on the stack.
+#![tactic(auto)]
+
 use files::Input;
+use std::io;
 use units::BytePlace;
 use wave::Verdict;
 
 // The verdict on a file.
-fn check(file: &[u8]) {
+fn check(rt: &impl Print, file: &[u8]) -> io::Result<()> {
     let mut texts = files::texts_room();
     let reading = wave::read(file, &mut texts);
-    let verdict = reading.verdict;
-    match verdict {
-        Verdict::Accepted => show::word(b"accepted\n"),
-        Verdict::Refused(refusal) => listing::refused(refusal),
+    match reading.verdict {
+        Verdict::Accepted => show::word(rt, b"accepted\n"),
+        Verdict::Refused(refusal) => listing::refused(rt, refusal),
     }
 }
 
-fn main() {
-    if !files::called(2, b"wave_check FILE") {
-        return;
+fn main(rt: HostRuntime) -> io::Result<()> {
+    if !files::called(&rt, 2, "wave_check FILE")? {
+        return Ok(());
     }
     let mut buffer = files::file_room();
-    let Input::Bytes(n) = files::read(b"wave_check", 1, &mut buffer) else {
-        return;
+    let Input::Bytes(n) = files::read(&rt, "wave_check", 1, &mut buffer)? else {
+        return Ok(());
     };
-    if files::too_long(n) {
-        return;
+    if files::too_long(&rt, n)? {
+        return Ok(());
     }
-    check(little::bytes_from(&buffer, BytePlace(0), BytePlace(n)));
+    check(
+        &rt,
+        little::bytes_from(&buffer, BytePlace(0), BytePlace(n)),
+    )
 }

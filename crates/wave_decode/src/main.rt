@@ -4,9 +4,13 @@
 //
 // IN may have 262,144 bytes at most; a longer one is `refused 1`. No such file lacks room. All is held on the
 // stack, 3.5 MB.
+#![tactic(auto)]
+
 ghost use Rattle.std.specs.Prelude.{◌≤◌};
 
 use files::Input;
+use std::io;
+use std::rt::Runtime;
 use units::BytePlace;
 use wave::{Decoded, Frames, Record, Written};
 
@@ -23,74 +27,90 @@ fn one_or_two(channels: u16) -> u16
 // The record of a file's sound as 16-bit PCM: places and lengths are frames, so they stay as they are.
 fn plain(made: Record) -> Record {
     let old = made.format;
-    let format = formats::plain(one_or_two(old.channels), old.rate, 16);
-    let frames = made.frames;
-    let cues = made.cues;
-    let playlist = made.playlist;
-    let titles = made.titles;
     Record {
-        format: format,
-        frames: frames,
-        cues: cues,
-        playlist: playlist,
-        titles: titles,
+        format: formats::plain(one_or_two(old.channels), old.rate, 16),
+        frames: made.frames,
+        cues: made.cues,
+        playlist: made.playlist,
+        titles: made.titles,
     }
 }
 
 // Puts a file where it is to be, and says what it holds.
-fn keep(frames: Frames, file: &[u8]) {
-    if !files::write(b"wave_decode", 2, file) {
-        return;
+fn keep(
+    rt: &impl Runtime,
+    frames: Frames,
+    file: &[u8],
+) -> io::Result<()> {
+    if !files::write(rt, "wave_decode", 2, file)? {
+        return Ok(());
     }
-    listing::frames(frames);
-    files::size(file);
+    listing::frames(rt, frames)?;
+    files::size(rt, file)
 }
 
 // Writes the file of a record, the texts of its titles and its sound.
-fn write(made: Record, texts: &[u8], sound: &[u8]) {
+fn write(
+    rt: &impl Runtime,
+    made: Record,
+    texts: &[u8],
+    sound: &[u8],
+) -> io::Result<()> {
     let mut out = files::new_room();
     match wave::write(made, texts, sound, &mut out) {
-        Written::Bytes(size) => keep(made.frames, little::bytes_from(&out, BytePlace(0), size)),
-        Written::Refused(refusal) => listing::refused(refusal),
+        Written::Bytes(size) => keep(
+            rt,
+            made.frames,
+            little::bytes_from(&out, BytePlace(0), size),
+        ),
+        Written::Refused(refusal) => listing::refused(rt, refusal),
     }
 }
 
 // Writes the frames at the start of a sound.
-fn write_sound(made: Record, texts: &[u8], sound: &[i16; 524288]) {
+fn write_sound(
+    rt: &impl Runtime,
+    made: Record,
+    texts: &[u8],
+    sound: &[i16; 524288],
+) -> io::Result<()> {
     let mut raw = files::new_room();
     samples::to_pcm16(sound, &mut raw);
     let format = made.format;
-    let frames = made.frames;
-    let n = files::samples_in(frames, format.channels);
+    let n = files::samples_in(made.frames, format.channels);
     write(
+        rt,
         made,
         texts,
         little::bytes_from(&raw, BytePlace(0), BytePlace(2 * n)),
-    );
+    )
 }
 
 // Decodes a file.
-fn decode(file: &[u8]) {
+fn decode(rt: &impl Runtime, file: &[u8]) -> io::Result<()> {
     let mut texts = files::texts_room();
     let reading = wave::read(file, &mut texts);
     let made = reading.made;
     let mut sound = files::sound_room();
     match wave::decode(file, &mut sound) {
-        Decoded::Frames(_) => write_sound(plain(made), &texts, &sound),
-        Decoded::Refused(refusal) => listing::refused(refusal),
+        Decoded::Frames(_) => write_sound(rt, plain(made), &texts, &sound),
+        Decoded::Refused(refusal) => listing::refused(rt, refusal),
     }
 }
 
-fn main() {
-    if !files::called(3, b"wave_decode IN OUT") {
-        return;
+fn main(rt: HostRuntime) -> io::Result<()> {
+    if !files::called(&rt, 3, "wave_decode IN OUT")? {
+        return Ok(());
     }
     let mut buffer = files::file_room();
-    let Input::Bytes(n) = files::read(b"wave_decode", 1, &mut buffer) else {
-        return;
+    let Input::Bytes(n) = files::read(&rt, "wave_decode", 1, &mut buffer)? else {
+        return Ok(());
     };
-    if files::too_long(n) {
-        return;
+    if files::too_long(&rt, n)? {
+        return Ok(());
     }
-    decode(little::bytes_from(&buffer, BytePlace(0), BytePlace(n)));
+    decode(
+        &rt,
+        little::bytes_from(&buffer, BytePlace(0), BytePlace(n)),
+    )
 }

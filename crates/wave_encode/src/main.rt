@@ -5,55 +5,75 @@
 //
 // IN may have 262,144 bytes at most; a longer one is `refused 1`. No such file lacks room. All is held on the
 // stack, 3.4 MB.
+#![tactic(auto)]
+
 use files::{Input, Said};
+use std::io;
+use std::rt::Runtime;
 use units::BytePlace;
 use wave::{Coded, Decoded, Encoded, Format, Frames, Record, Written};
 
 // How it is called.
-const USAGE: [u8; 24] = *b"wave_encode IN OUT ALIGN";
+const USAGE: &str = "wave_encode IN OUT ALIGN";
 
 // The chased samples of one channel.
-fn chased(name: &[u8], count: Frames) {
-    show::field(name, count.0 as u64);
-    show::line();
+fn chased(rt: &impl Print, name: &[u8], count: Frames) -> io::Result<()> {
+    show::field(rt, name, count.0 as u64)?;
+    show::line(rt)
 }
 
 // Puts a file where it is to be, and says what it holds.
-fn keep(frames: Frames, told: Coded, file: &[u8]) {
-    if !files::write(b"wave_encode", 2, file) {
-        return;
+fn keep(
+    rt: &impl Runtime,
+    frames: Frames,
+    told: Coded,
+    file: &[u8],
+) -> io::Result<()> {
+    if !files::write(rt, "wave_encode", 2, file)? {
+        return Ok(());
     }
-    listing::frames(frames);
-    files::size(file);
-    let left = told.left;
-    let right = told.right;
-    chased(b"chased left ", left);
-    chased(b"chased right ", right);
+    listing::frames(rt, frames)?;
+    files::size(rt, file)?;
+    chased(rt, b"chased left ", told.left)?;
+    chased(rt, b"chased right ", told.right)
 }
 
 // Writes the file of a record, which has no titles, and its blocks.
-fn write(made: Record, told: Coded, blocks: &[u8]) {
+fn write(
+    rt: &impl Runtime,
+    made: Record,
+    told: Coded,
+    blocks: &[u8],
+) -> io::Result<()> {
     let mut out = files::new_room();
     match wave::write(made, b"", blocks, &mut out) {
         Written::Bytes(size) => keep(
+            rt,
             made.frames,
             told,
             little::bytes_from(&out, BytePlace(0), size),
         ),
-        Written::Refused(refusal) => listing::refused(refusal),
+        Written::Refused(refusal) => listing::refused(rt, refusal),
     }
 }
 
 // Encodes a sound.
-fn encode(format: Format, frames: Frames, sound: &[i16], align: u16) {
+fn encode(
+    rt: &impl Runtime,
+    format: Format,
+    frames: Frames,
+    sound: &[i16],
+    align: u16,
+) -> io::Result<()> {
     let mut out = files::new_room();
     match wave::encode(sound, format.channels, align, &mut out) {
         Encoded::Blocks(told) => write(
+            rt,
             wave::record_of(format.channels, format.rate, align, frames),
             told,
             little::bytes_from(&out, BytePlace(0), told.bytes),
         ),
-        Encoded::Refused(refusal) => listing::refused(refusal),
+        Encoded::Refused(refusal) => listing::refused(rt, refusal),
     }
 }
 
@@ -67,7 +87,11 @@ fn heard(sound: &[i16], frames: Frames, channels: u16) -> &[i16] {
 }
 
 // Makes the copy of a file.
-fn copy(file: &[u8], align: u16) {
+fn copy(
+    rt: &impl Runtime,
+    file: &[u8],
+    align: u16,
+) -> io::Result<()> {
     let mut texts = files::texts_room();
     let reading = wave::read(file, &mut texts);
     let made = reading.made;
@@ -75,37 +99,39 @@ fn copy(file: &[u8], align: u16) {
     let mut sound = files::sound_room();
     match wave::decode(file, &mut sound) {
         Decoded::Frames(frames) => encode(
+            rt,
             format,
             frames,
             heard(&sound, frames, format.channels),
             align,
         ),
-        Decoded::Refused(refusal) => listing::refused(refusal),
+        Decoded::Refused(refusal) => listing::refused(rt, refusal),
     }
 }
 
 // Reads the file to be copied.
-fn start(align: u16) {
+fn start(rt: &impl Runtime, align: u16) -> io::Result<()> {
     let mut buffer = files::file_room();
-    let Input::Bytes(n) = files::read(b"wave_encode", 1, &mut buffer) else {
-        return;
+    let Input::Bytes(n) = files::read(rt, "wave_encode", 1, &mut buffer)? else {
+        return Ok(());
     };
-    if files::too_long(n) {
-        return;
+    if files::too_long(rt, n)? {
+        return Ok(());
     }
     copy(
+        rt,
         little::bytes_from(&buffer, BytePlace(0), BytePlace(n)),
         align,
-    );
+    )
 }
 
-fn main() {
-    if !files::called(4, &USAGE) {
-        return;
+fn main(rt: HostRuntime) -> io::Result<()> {
+    if !files::called(&rt, 4, USAGE)? {
+        return Ok(());
     }
-    let Said::Number(align) = files::number(3, 65535, &USAGE) else {
-        return;
+    let Said::Number(align) = files::number(&rt, 3, 65535, USAGE)? else {
+        return Ok(());
     };
     // It is at most 65,535, so nothing of it is cut off.
-    start((align % 65536) as u16);
+    start(&rt, (align % 65536) as u16)
 }

@@ -1,14 +1,15 @@
 // Lists the WAVE file on standard input, which may have 65,536 bytes at most; a longer one is
 // `refused 1`.
-use libc::STDIN_FILENO;
+#![tactic(auto)]
+
+use std::io;
 use units::Refusal;
 
-fn main() {
+fn main(rt: HostRuntime) -> io::Result<()> {
     let mut buffer = [0u8; 65537];
-    let n = io::read_full(STDIN_FILENO, &mut buffer);
+    let n = files::fill(&mut rt.stdin(), &mut buffer)?;
     if 65536 < n {
-        listing::refused(Refusal::LengthOutOfRange);
-        return;
+        return listing::refused(&rt, Refusal::LengthOutOfRange);
     }
-    listing::list(&buffer[..n]);
+    listing::list(&rt, &buffer[..n])
 }

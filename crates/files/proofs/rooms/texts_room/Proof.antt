@@ -1,9 +1,0 @@
--- The room is as long as its type says.
-use Prim.Native.Nat.{ℕ}
-use mathlib.Core.Path.{sym}
-use lib.ListN.{length-replicate}
-use Rattle.files.proofs.rooms.texts_room.Statement.{statement}
-use Rattle.files.proofs.rooms.texts_room.Tie as tie
-
-pub texts_room_spec : {M : Type 1} → statement M
-texts_room_spec = tie.close (tie.spec (λ c. sym (length-replicate {A = ℕ} 32768 0)))
