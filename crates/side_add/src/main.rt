@@ -17,11 +17,7 @@ use wave::{Donation, Frames, Written};
 const USAGE: &str = "side_add SIDE SONG NUMBER LIMIT OUT";
 
 // Puts the new side where it is to be, and says what was added.
-fn keep(
-    rt: &impl Runtime,
-    number: Donation,
-    file: &[u8],
-) -> io::Result<()> {
+fn keep(rt: &impl Runtime, number: Donation, file: &[u8]) -> io::Result<()> {
     if !files::write(rt, "side_add", 5, file)? {
         return Ok(());
     }
@@ -40,22 +36,13 @@ fn add(
 ) -> io::Result<()> {
     let mut out = files::file_room();
     match wave::add(side, song, number, limit, &mut out) {
-        Written::Bytes(size) => keep(
-            rt,
-            number,
-            little::bytes_from(&out, BytePlace(0), size),
-        ),
+        Written::Bytes(size) => keep(rt, number, little::bytes_from(&out, BytePlace(0), size)),
         Written::Refused(refusal) => listing::refused(rt, refusal),
     }
 }
 
 // Reads the song, and adds it to a side that was read.
-fn add_to(
-    rt: &impl Runtime,
-    side: &[u8],
-    number: Donation,
-    limit: Frames,
-) -> io::Result<()> {
+fn add_to(rt: &impl Runtime, side: &[u8], number: Donation, limit: Frames) -> io::Result<()> {
     let mut buffer = files::file_room();
     let Input::Bytes(n) = files::read(rt, "side_add", 2, &mut buffer)? else {
         return Ok(());
@@ -76,11 +63,7 @@ fn add_to(
 }
 
 // Reads the side.
-fn start(
-    rt: &impl Runtime,
-    number: Donation,
-    limit: Frames,
-) -> io::Result<()> {
+fn start(rt: &impl Runtime, number: Donation, limit: Frames) -> io::Result<()> {
     let mut buffer = files::file_room();
     let Input::Bytes(n) = files::read(rt, "side_add", 1, &mut buffer)? else {
         return Ok(());

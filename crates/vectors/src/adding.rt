@@ -8,6 +8,7 @@
 // is asked of the new side, in 16,384 bytes, or 0 where it is accepted again.
 use crate::entries::label;
 use crate::lent::{refused_lines, written_lines};
+use std::io;
 use units::{BytePlace, Donation, Frames};
 use writer::Written;
 
@@ -20,37 +21,58 @@ fn number_of(added: Written) -> u64 {
 }
 
 // What comes of a song that is added once more.
-fn again_line(old: &[u8], song: &[u8], number: Donation, limit: Frames) {
+fn again_line(
+    rt: &impl Print,
+    old: &[u8],
+    song: &[u8],
+    number: Donation,
+    limit: Frames,
+) -> io::Result<()> {
     let mut out = [170u8; 16384];
     let added = side::add(old, song, number, limit, &mut out);
-    show::field(b"again ", number_of(added));
-    show::line();
+    show::field(rt, b"again ", number_of(added))?;
+    show::line(rt)
 }
 
 // A new side in a lent buffer, and what comes of the same song again.
-fn added_lines(size: usize, out: &[u8], song: &[u8], number: Donation, limit: Frames) {
-    written_lines(size, out);
+fn added_lines(
+    rt: &impl Print,
+    size: usize,
+    out: &[u8],
+    song: &[u8],
+    number: Donation,
+    limit: Frames,
+) -> io::Result<()> {
+    written_lines(rt, size, out)?;
     again_line(
+        rt,
         little::bytes_from(out, BytePlace(0), BytePlace(size)),
         song,
         number,
         limit,
-    );
+    )
 }
 
 // Adds a song to a side, in a lent buffer.
-fn add(old: &[u8], song: &[u8], number: Donation, limit: Frames, out: &mut [u8]) {
+fn add(
+    rt: &impl Print,
+    old: &[u8],
+    song: &[u8],
+    number: Donation,
+    limit: Frames,
+    out: &mut [u8],
+) -> io::Result<()> {
     match side::add(old, song, number, limit, out) {
-        Written::Bytes(size) => added_lines(size.0, out, song, number, limit),
-        Written::Refused(refusal) => refused_lines(refusal, out),
+        Written::Bytes(size) => added_lines(rt, size.0, out, song, number, limit),
+        Written::Refused(refusal) => refused_lines(rt, refusal, out),
     }
 }
 
 // Makes an empty side in a lent buffer.
-fn start(channels: u16, rate: u32, out: &mut [u8]) {
+fn start(rt: &impl Print, channels: u16, rate: u32, out: &mut [u8]) -> io::Result<()> {
     match side::empty(channels, rate, out) {
-        Written::Bytes(size) => written_lines(size.0, out),
-        Written::Refused(refusal) => refused_lines(refusal, out),
+        Written::Bytes(size) => written_lines(rt, size.0, out),
+        Written::Refused(refusal) => refused_lines(rt, refusal, out),
     }
 }
 
@@ -60,31 +82,31 @@ fn starts(old: &[u8], song: &[u8]) -> bool {
 }
 
 // Does what an entry asks for, in a lent buffer.
-fn work(head: &[u8], old: &[u8], song: &[u8], out: &mut [u8]) {
+fn work(rt: &impl Print, head: &[u8], old: &[u8], song: &[u8], out: &mut [u8]) -> io::Result<()> {
     let number = little::u32_or_zero(head, 8);
     let limit = little::u32_or_zero(head, 12);
     if starts(old, song) {
-        start(little::u16_or_zero(head, 8), limit, out);
-        return;
+        return start(rt, little::u16_or_zero(head, 8), limit, out);
     }
-    add(old, song, Donation(number), Frames(limit), out);
+    add(rt, old, song, Donation(number), Frames(limit), out)
 }
 
 // The same in as many bytes as the entry says.
-fn work_in(head: &[u8], old: &[u8], song: &[u8]) {
+fn work_in(rt: &impl Print, head: &[u8], old: &[u8], song: &[u8]) -> io::Result<()> {
     let mut out = [170u8; 16384];
-    let room = io::count(little::u16_or_zero(head, 2) as isize, &out);
-    work(head, old, song, &mut out[..room]);
+    let room = (little::u16_or_zero(head, 2) as usize).min(out.len());
+    work(rt, head, old, song, &mut out[..room])
 }
 
-pub fn entry(table: &[u8]) -> usize {
+pub fn entry(rt: &impl Print, table: &[u8]) -> io::Result<usize> {
     let old = little::u16_or_zero(table, 4) as usize;
     let song = little::u16_or_zero(table, 6) as usize;
-    let at = label(table, 16);
+    let at = label(rt, table, 16)?;
     work_in(
+        rt,
         table,
         little::bytes_from(table, BytePlace(at), BytePlace(old)),
         little::bytes_from(table, BytePlace(at + old), BytePlace(song)),
-    );
-    at + old + song
+    )?;
+    Ok(at + old + song)
 }

@@ -12,54 +12,63 @@ use crate::lent::count;
 use decode::Decoded;
 use encode::{Coded, Encoded};
 use rules::Record;
+use std::io;
 use units::{BytePlace, Frames, Refusal};
 use writer::Written;
 
 // A refusal, after the word for what refused.
-fn refused(word: &[u8], refusal: Refusal) {
-    show::word(word);
-    listing::refused(refusal);
+fn refused(rt: &impl Print, word: &[u8], refusal: Refusal) -> io::Result<()> {
+    show::word(rt, word)?;
+    listing::refused(rt, refusal)
 }
 
 // How many frames were decoded, and the lent sound.
-fn heard_lines(frames: Frames, heard: &[i16]) {
-    listing::frames(frames);
-    heard_line(heard);
+fn heard_lines(rt: &impl Print, frames: Frames, heard: &[i16]) -> io::Result<()> {
+    listing::frames(rt, frames)?;
+    heard_line(rt, heard)
 }
 
 // Decodes a file to a lent sound.
-fn decode(file: &[u8], heard: &mut [i16]) {
+fn decode(rt: &impl Print, file: &[u8], heard: &mut [i16]) -> io::Result<()> {
     match decode::decode(file, heard) {
-        Decoded::Frames(frames) => heard_lines(frames, heard),
-        Decoded::Refused(refusal) => refused(b"decode ", refusal),
+        Decoded::Frames(frames) => heard_lines(rt, frames, heard),
+        Decoded::Refused(refusal) => refused(rt, b"decode ", refusal),
     }
 }
 
 // Decodes a file into so many samples, at most 32,768.
-fn decode_in(file: &[u8], room: usize) {
+fn decode_in(rt: &impl Print, file: &[u8], room: usize) -> io::Result<()> {
     let mut heard = [7i16; 32768];
     let n = count(room, &heard);
-    decode(file, &mut heard[..n]);
+    decode(rt, file, &mut heard[..n])
 }
 
 // What was written of a sound of n samples, and what is heard in it.
-fn written_lines(file: &[u8], coded: Coded, n: usize) {
-    show::mixed_line(file);
-    show::field(b"chased left ", coded.left.0 as u64);
-    show::field(b" right ", coded.right.0 as u64);
-    show::line();
-    decode_in(file, n);
+fn written_lines(rt: &impl Print, file: &[u8], coded: Coded, n: usize) -> io::Result<()> {
+    show::mixed_line(rt, file)?;
+    show::field(rt, b"chased left ", coded.left.0 as u64)?;
+    show::field(rt, b" right ", coded.right.0 as u64)?;
+    show::line(rt)?;
+    decode_in(rt, file, n)
 }
 
 // Writes the blocks of a sound of n samples to a lent buffer.
-fn write(made: Record, blocks: &[u8], coded: Coded, n: usize, out: &mut [u8]) {
+fn write(
+    rt: &impl Print,
+    made: Record,
+    blocks: &[u8],
+    coded: Coded,
+    n: usize,
+    out: &mut [u8],
+) -> io::Result<()> {
     match writer::write(made, b"", blocks, out) {
         Written::Bytes(size) => written_lines(
+            rt,
             little::bytes_from(out, BytePlace(0), size),
             coded,
             n,
         ),
-        Written::Refused(refusal) => refused(b"write ", refusal),
+        Written::Refused(refusal) => refused(rt, b"write ", refusal),
     }
 }
 
@@ -75,36 +84,50 @@ fn frames_in(n: usize, channels: u16) -> Frames {
 }
 
 // Writes the blocks of a sound of n samples into so many bytes.
-fn write_in(asked: Asked, blocks: &[u8], coded: Coded, n: usize) {
+fn write_in(
+    rt: &impl Print,
+    asked: Asked,
+    blocks: &[u8],
+    coded: Coded,
+    n: usize,
+) -> io::Result<()> {
     let frames = frames_in(n, asked.channels);
     let made = approval::record_of(asked.channels, asked.rate, asked.align, frames);
     let mut out = [170u8; 16384];
-    let room = io::count(asked.room as isize, &out);
-    write(made, blocks, coded, n, &mut out[..room]);
+    let room = (asked.room as usize).min(out.len());
+    write(rt, made, blocks, coded, n, &mut out[..room])
 }
 
 // The copy of a sound of n samples, whose blocks are in a lent buffer.
-pub fn copy_lines(answer: Encoded, asked: Asked, n: usize, out: &[u8]) {
+pub fn copy_lines(
+    rt: &impl Print,
+    answer: Encoded,
+    asked: Asked,
+    n: usize,
+    out: &[u8],
+) -> io::Result<()> {
     match answer {
         Encoded::Blocks(coded) => {
             write_in(
+                rt,
                 asked,
                 little::bytes_from(out, BytePlace(0), coded.bytes),
                 coded,
                 n,
             )
         }
-        Encoded::Refused(refusal) => refused(b"encode ", refusal),
+        Encoded::Refused(refusal) => refused(rt, b"encode ", refusal),
     }
 }
 
-pub fn entry(table: &[u8]) -> usize {
+pub fn entry(rt: &impl Print, table: &[u8]) -> io::Result<usize> {
     let size = little::u16_or_zero(table, 8) as usize;
     let rate = little::u32_or_zero(table, 10);
-    let at = label(table, 14);
+    let at = label(rt, table, 14)?;
     encode_asked(
+        rt,
         little::bytes_from(table, BytePlace(at), BytePlace(size)),
         asked_in(table, rate, true),
-    );
-    at + size
+    )?;
+    Ok(at + size)
 }

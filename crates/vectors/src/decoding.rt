@@ -7,64 +7,67 @@
 use crate::entries::label;
 use crate::lent::{count, mixed_line, sound_line};
 use decode::Decoded;
+use std::io;
 use units::BytePlace;
 
 // The answer of decoding.
-fn answer_line(answer: Decoded) {
+fn answer_line(rt: &impl Print, answer: Decoded) -> io::Result<()> {
     match answer {
-        Decoded::Frames(frames) => listing::frames(frames),
-        Decoded::Refused(refusal) => listing::refused(refusal),
+        Decoded::Frames(frames) => listing::frames(rt, frames),
+        Decoded::Refused(refusal) => listing::refused(rt, refusal),
     }
 }
 
 // A number mixed of a sound of at most 32,768 samples.
-pub fn heard_line(sound: &[i16]) {
+pub fn heard_line(rt: &impl Print, sound: &[i16]) -> io::Result<()> {
     if 32768 < sound.len() {
-        return;
+        return Ok(());
     }
     let mut raw = [0u8; 65536];
     samples::to_pcm16(sound, &mut raw);
-    mixed_line(little::bytes_from(&raw, BytePlace(0), BytePlace(2 * sound.len())));
+    mixed_line(
+        rt,
+        little::bytes_from(&raw, BytePlace(0), BytePlace(2 * sound.len())),
+    )
 }
 
 // A lent sound.
-fn lent_line(out: &[i16]) {
+fn lent_line(rt: &impl Print, out: &[i16]) -> io::Result<()> {
     if 64 < out.len() {
-        heard_line(out);
-        return;
+        return heard_line(rt, out);
     }
-    sound_line(b"sound", out);
+    sound_line(rt, b"sound", out)
 }
 
 // Decodes a file, or a block of it, to a lent sound.
-fn decode(file: &[u8], kind: u16, block: u32, out: &mut [i16]) {
+fn decode(rt: &impl Print, file: &[u8], kind: u16, block: u32, out: &mut [i16]) -> io::Result<()> {
     if kind == 0 {
-        answer_line(decode::decode(file, out));
-        lent_line(out);
-        return;
+        answer_line(rt, decode::decode(file, out))?;
+        return lent_line(rt, out);
     }
-    answer_line(decode::decode_block(file, block, out));
-    lent_line(out);
+    answer_line(rt, decode::decode_block(file, block, out))?;
+    lent_line(rt, out)
 }
 
 // Decodes a file, or a block of it, into so many samples.
-fn decode_in(file: &[u8], kind: u16, block: u32, room: usize) {
+fn decode_in(rt: &impl Print, file: &[u8], kind: u16, block: u32, room: usize) -> io::Result<()> {
     let mut out = [7i16; 16384];
     let n = count(room, &out);
-    decode(file, kind, block, &mut out[..n]);
+    decode(rt, file, kind, block, &mut out[..n])
 }
 
-pub fn entry(table: &[u8]) -> usize {
+pub fn entry(rt: &impl Print, table: &[u8]) -> io::Result<usize> {
     let kind = little::u16_or_zero(table, 2);
     let block = little::u32_or_zero(table, 4);
     let room = little::u16_or_zero(table, 8) as usize;
     let size = little::u16_or_zero(table, 10) as usize;
-    let at = label(table, 12);
+    let at = label(rt, table, 12)?;
     decode_in(
+        rt,
         little::bytes_from(table, BytePlace(at), BytePlace(size)),
         kind,
         block,
         room,
-    );
-    at + size
+    )?;
+    Ok(at + size)
 }

@@ -7,6 +7,7 @@ use crate::copying::copy_lines;
 use crate::entries::label;
 use crate::lent::{bytes_line, count};
 use encode::{Coded, Encoded};
+use std::io;
 use units::BytePlace;
 
 // What an entry asks for. A copy goes on with the blocks.
@@ -20,57 +21,57 @@ pub struct Asked {
 }
 
 // What coding gave.
-fn coded_line(coded: Coded) {
-    show::field(b"bytes ", coded.bytes.0 as u64);
-    show::field(b" left ", coded.left.0 as u64);
-    show::field(b" right ", coded.right.0 as u64);
-    show::line();
+fn coded_line(rt: &impl Print, coded: Coded) -> io::Result<()> {
+    show::field(rt, b"bytes ", coded.bytes.0 as u64)?;
+    show::field(rt, b" left ", coded.left.0 as u64)?;
+    show::field(rt, b" right ", coded.right.0 as u64)?;
+    show::line(rt)
 }
 
 // The answer of coding.
-fn answer_line(answer: Encoded) {
+fn answer_line(rt: &impl Print, answer: Encoded) -> io::Result<()> {
     match answer {
-        Encoded::Blocks(coded) => coded_line(coded),
-        Encoded::Refused(refusal) => listing::refused(refusal),
+        Encoded::Blocks(coded) => coded_line(rt, coded),
+        Encoded::Refused(refusal) => listing::refused(rt, refusal),
     }
 }
 
 // A lent buffer: a number mixed of it, and its first bytes.
-fn buffer_line(out: &[u8]) {
-    show::field(b"mixed ", show::mixed_bytes(out));
+fn buffer_line(rt: &impl Print, out: &[u8]) -> io::Result<()> {
+    show::field(rt, b"mixed ", show::mixed_bytes(out))?;
     bytes_line(
+        rt,
         b" starts",
         little::bytes_from(out, BytePlace(0), BytePlace(32)),
-    );
+    )
 }
 
 // Codes a sound to a lent buffer.
-fn encode(sound: &[i16], asked: Asked, out: &mut [u8]) {
+fn encode(rt: &impl Print, sound: &[i16], asked: Asked, out: &mut [u8]) -> io::Result<()> {
     let answer = encode::encode(sound, asked.channels, asked.align, out);
     if asked.copied {
-        copy_lines(answer, asked, sound.len(), out);
-        return;
+        return copy_lines(rt, answer, asked, sound.len(), out);
     }
-    answer_line(answer);
-    buffer_line(out);
+    answer_line(rt, answer)?;
+    buffer_line(rt, out)
 }
 
 // Codes a sound of 16-bit PCM, with its samples in a lent buffer, into so many bytes.
-fn encode_in(data: &[u8], asked: Asked, sound: &mut [i16]) {
+fn encode_in(rt: &impl Print, data: &[u8], asked: Asked, sound: &mut [i16]) -> io::Result<()> {
     if sound.len() < data.len() / 2 {
-        return;
+        return Ok(());
     }
     samples::from_pcm16(data, sound);
     let mut out = [170u8; 16384];
-    let room = io::count(asked.room as isize, &out);
-    encode(sound, asked, &mut out[..room]);
+    let room = (asked.room as usize).min(out.len());
+    encode(rt, sound, asked, &mut out[..room])
 }
 
 // The same of at most 32,768 samples.
-pub fn encode_asked(data: &[u8], asked: Asked) {
+pub fn encode_asked(rt: &impl Print, data: &[u8], asked: Asked) -> io::Result<()> {
     let mut sound = [0i16; 32768];
     let n = count(data.len() / 2, &sound);
-    encode_in(data, asked, &mut sound[..n]);
+    encode_in(rt, data, asked, &mut sound[..n])
 }
 
 // What the head of an entry asks for.
@@ -84,12 +85,13 @@ pub fn asked_in(head: &[u8], rate: u32, copied: bool) -> Asked {
     }
 }
 
-pub fn entry(table: &[u8]) -> usize {
+pub fn entry(rt: &impl Print, table: &[u8]) -> io::Result<usize> {
     let size = little::u16_or_zero(table, 8) as usize;
-    let at = label(table, 10);
+    let at = label(rt, table, 10)?;
     encode_asked(
+        rt,
         little::bytes_from(table, BytePlace(at), BytePlace(size)),
         asked_in(table, 0, false),
-    );
-    at + size
+    )?;
+    Ok(at + size)
 }

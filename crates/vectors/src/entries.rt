@@ -1,7 +1,8 @@
 // The parts of an entry. Most are a head, whose first two bytes are the length of the label; the label; and whatever
 // else the head tells of.
-ghost use Rattle.std.specs.Prelude.{◌≡◌, ◌-◌, ◌≤◌, length};
+ghost use Rattle.std.specs.Prelude.{◌≡◌, ◌-◌, ◌≤◌, length, IfOk};
 
+use std::io;
 use units::BytePlace;
 
 // What follows the first n bytes.
@@ -15,12 +16,15 @@ pub fn past(bytes: &[u8], n: usize) -> &[u8]
 }
 
 // Prints the label that follows a head, on a line of its own, and answers where it ends.
-pub fn label(table: &[u8], head: u16) -> usize
-    ensures bound { result ≤ 131070 }
+pub fn label(rt: &impl Print, table: &[u8], head: u16) -> io::Result<usize>
+    ensures bound { IfOk result (λ at. at ≤ 131070) }
 {
     let from = head as usize;
     let size = little::u16_or_zero(table, 0) as usize;
-    show::word(little::bytes_from(table, BytePlace(from), BytePlace(size)));
-    show::line();
-    from + size
+    show::word(
+        rt,
+        little::bytes_from(table, BytePlace(from), BytePlace(size)),
+    )?;
+    show::line(rt)?;
+    Ok(from + size)
 }

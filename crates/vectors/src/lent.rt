@@ -4,6 +4,7 @@
 ghost use Rattle.std.specs.Prelude.{◌≡◌, ◌≤◌, length, take};
 
 use crate::entries::past;
+use std::io;
 use titles::Titles;
 use units::{BytePlace, Refusal};
 
@@ -28,59 +29,52 @@ pub fn texts_of(titles: Titles, bytes: &[u8]) -> &[u8] {
 }
 
 // Bytes after a word.
-pub fn bytes_line(word: &[u8], bytes: &[u8]) {
-    show::word(word);
-    show::bytes(bytes);
-    show::line();
+pub fn bytes_line(rt: &impl Print, word: &[u8], bytes: &[u8]) -> io::Result<()> {
+    show::word(rt, word)?;
+    show::bytes(rt, bytes)?;
+    show::line(rt)
 }
 
 // Samples after a word.
-pub fn sound_line(word: &[u8], sound: &[i16]) {
-    show::word(word);
-    show::sound(sound);
-    show::line();
+pub fn sound_line(rt: &impl Print, word: &[u8], sound: &[i16]) -> io::Result<()> {
+    show::word(rt, word)?;
+    show::sound(rt, sound)?;
+    show::line(rt)
 }
 
 // A number mixed of bytes.
-pub fn mixed_line(bytes: &[u8]) {
-    show::field(b"mixed ", show::mixed_bytes(bytes));
-    show::line();
+pub fn mixed_line(rt: &impl Print, bytes: &[u8]) -> io::Result<()> {
+    show::field(rt, b"mixed ", show::mixed_bytes(bytes))?;
+    show::line(rt)
 }
 
 // A file, or of more than 128 bytes a number mixed of them.
-fn file_line(file: &[u8]) {
+fn file_line(rt: &impl Print, file: &[u8]) -> io::Result<()> {
     if 128 < file.len() {
-        mixed_line(file);
-        return;
+        return mixed_line(rt, file);
     }
-    bytes_line(b"file", file);
+    bytes_line(rt, b"file", file)
 }
 
 // Whether what nothing was written to is as it was.
-pub fn rest_line(rest: &[u8]) {
+pub fn rest_line(rt: &impl Print, rest: &[u8]) -> io::Result<()> {
     let before = [170u8; 16384];
     let n = rest.len();
-    show::field(b"rest ", n as u64);
-    show::either(
-        check::same(
-            rest,
-            little::bytes_from(&before, BytePlace(0), BytePlace(n)),
-        ),
-        b" untouched",
-        b" changed",
-    );
+    show::field(rt, b"rest ", n as u64)?;
+    let untouched = rest == little::bytes_from(&before, BytePlace(0), BytePlace(n));
+    show::either(rt, untouched, b" untouched", b" changed")
 }
 
 // A refusal, and the lent buffer.
-pub fn refused_lines(refusal: Refusal, out: &[u8]) {
-    listing::refused(refusal);
-    rest_line(out);
+pub fn refused_lines(rt: &impl Print, refusal: Refusal, out: &[u8]) -> io::Result<()> {
+    listing::refused(rt, refusal)?;
+    rest_line(rt, out)
 }
 
 // How many bytes were written to a lent buffer, and which.
-pub fn written_lines(size: usize, out: &[u8]) {
-    show::field(b"bytes ", size as u64);
-    show::line();
-    file_line(little::bytes_from(out, BytePlace(0), BytePlace(size)));
-    rest_line(past(out, size));
+pub fn written_lines(rt: &impl Print, size: usize, out: &[u8]) -> io::Result<()> {
+    show::field(rt, b"bytes ", size as u64)?;
+    show::line(rt)?;
+    file_line(rt, little::bytes_from(out, BytePlace(0), BytePlace(size)))?;
+    rest_line(rt, past(out, size))
 }

@@ -1,6 +1,8 @@
 // Runs the library on vectors. Standard input is entries one after the other, in 524,288 bytes: a byte says the
 // operation, and its module says what follows. Past the end of the input all is 0, as in `little`, so that any
 // bytes are entries.
+#![tactic(auto)]
+
 mod adding;
 mod copying;
 mod decoding;
@@ -16,7 +18,7 @@ mod writing;
 ghost use Rattle.std.specs.Prelude.{◌≡◌, length};
 
 use entries::past;
-use libc::STDIN_FILENO;
+use std::io;
 
 // Room for the input. The `ensures` gives its length alone, so that no proof counts its bytes.
 fn room() -> [u8; 524288]
@@ -26,36 +28,37 @@ fn room() -> [u8; 524288]
 }
 
 // Says that a byte is no operation, and skips all that follows.
-fn no_operation(operation: u8, table: &[u8]) -> usize {
-    show::field(b"no operation ", operation as u64);
-    show::line();
-    table.len()
+fn no_operation(rt: &impl Print, operation: u8, table: &[u8]) -> io::Result<usize> {
+    show::field(rt, b"no operation ", operation as u64)?;
+    show::line(rt)?;
+    Ok(table.len())
 }
 
 // Works on the first entry, and answers how many bytes it has.
-fn entry(operation: u8, table: &[u8]) -> usize {
+fn entry(rt: &impl Print, operation: u8, table: &[u8]) -> io::Result<usize> {
     match operation {
-        b'A' => adding::entry(table),
-        b'C' => copying::entry(table),
-        b'D' => decoding::entry(table),
-        b'E' => encoding::entry(table),
-        b'N' => numbers::entry(table),
-        b'P' => numbers::put_entry(table),
-        b'R' => reading::entry(table),
-        b'S' => sampling::entry(table),
-        b'U' => refusals::entry(table),
-        b'W' => writing::entry(table),
-        _ => no_operation(operation, table),
+        b'A' => adding::entry(rt, table),
+        b'C' => copying::entry(rt, table),
+        b'D' => decoding::entry(rt, table),
+        b'E' => encoding::entry(rt, table),
+        b'N' => numbers::entry(rt, table),
+        b'P' => numbers::put_entry(rt, table),
+        b'R' => reading::entry(rt, table),
+        b'S' => sampling::entry(rt, table),
+        b'U' => refusals::entry(rt, table),
+        b'W' => writing::entry(rt, table),
+        _ => no_operation(rt, operation, table),
     }
 }
 
-fn main() {
+fn main(rt: HostRuntime) -> io::Result<()> {
     let mut buffer = room();
-    let n = io::read_full(STDIN_FILENO, &mut buffer);
+    let n = files::fill(&mut rt.stdin(), &mut buffer)?;
     let mut table = &buffer[..n];
     while 0 < table.len() {
         let body = past(table, 1);
-        let size = entry(table[0], body);
+        let size = entry(&rt, table[0], body)?;
         table = past(body, size);
     }
+    Ok(())
 }

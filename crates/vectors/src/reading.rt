@@ -8,124 +8,117 @@
 use crate::entries::{label, past};
 use crate::lent;
 use riff::{Pad, Spot};
+use std::io;
 use tables::{Cue, Cues};
 use titles::{Title, Titles};
 use units::{BytePlace, Verdict};
 
 // The position of a cue, after a blank.
-fn position(cue: Cue) {
-    show::field(b" ", cue.position.0 as u64);
+fn position(rt: &impl Print, cue: Cue) -> io::Result<()> {
+    show::field(rt, b" ", cue.position.0 as u64)
 }
 
 // The positions of the cues.
-fn positions(cues: Cues) {
-    let list = cues.list;
-    let count = cues.count as usize;
-    for i in 0..64 {
-        if i < count {
-            let cue = list[i];
-            position(cue);
-        }
+fn positions(rt: &impl Print, cues: Cues) -> io::Result<()> {
+    for cue in cues.list.iter().take(cues.count as usize) {
+        position(rt, *cue)?;
     }
+    Ok(())
 }
 
 // Whether a pad is there.
-fn pad_words(pad: Pad) {
+fn pad_words(rt: &impl Print, pad: Pad) -> io::Result<()> {
     match pad {
-        Pad::NotNeeded => show::word(b" pad not needed "),
-        Pad::There => show::word(b" pad there "),
-        Pad::Absent => show::word(b" pad absent "),
+        Pad::NotNeeded => show::word(rt, b" pad not needed "),
+        Pad::There => show::word(rt, b" pad there "),
+        Pad::Absent => show::word(rt, b" pad absent "),
     }
 }
 
 // Where the sound of a file starts, its pad, how long it is, and a number mixed of it.
-fn sound_line(file: &[u8]) {
+fn sound_line(rt: &impl Print, file: &[u8]) -> io::Result<()> {
     let spot = reader::sound_spot(file);
     let bytes = reader::sound_of(file);
-    show::word(b"sound ");
+    show::word(rt, b"sound ")?;
     if let Spot::At(place) = spot {
         let pad = place.pad;
-        show::field(b"at ", place.start.0 as u64);
-        pad_words(pad);
+        show::field(rt, b"at ", place.start.0 as u64)?;
+        pad_words(rt, pad)?;
     }
-    show::mixed_line(bytes);
+    show::mixed_line(rt, bytes)
 }
 
 // What the listing of a file leaves out.
-fn more_line(file: &[u8]) {
+fn more_line(rt: &impl Print, file: &[u8]) -> io::Result<()> {
     let opened = reader::open(file);
     let reading = opened.answer;
     let made = reading.made;
     let format = made.format;
     let cues = made.cues;
-    show::field(b"align ", format.align as u64);
-    show::field(b" samples ", format.samples as u64);
-    show::word(b" positions");
-    positions(cues);
-    show::line();
+    show::field(rt, b"align ", format.align as u64)?;
+    show::field(rt, b" samples ", format.samples as u64)?;
+    show::word(rt, b" positions")?;
+    positions(rt, cues)?;
+    show::line(rt)
 }
 
 // A title: its kind, the name of its cue, where its text starts and how long it is, each after a blank.
-fn title(found: Title) {
-    show::field(b" ", found.kind as u64);
-    show::field(b" ", found.name.0 as u64);
-    show::field(b" ", found.start.0 as u64);
-    show::field(b" ", found.length.0 as u64);
+fn title(rt: &impl Print, found: Title) -> io::Result<()> {
+    show::field(rt, b" ", found.kind as u64)?;
+    show::field(rt, b" ", found.name.0 as u64)?;
+    show::field(rt, b" ", found.start.0 as u64)?;
+    show::field(rt, b" ", found.length.0 as u64)
 }
 
 // The titles of a table.
-fn each_title(titles: Titles) {
-    let list = titles.list;
-    let count = titles.count as usize;
-    for i in 0..128 {
-        if i < count {
-            let found = list[i];
-            title(found);
-        }
+fn each_title(rt: &impl Print, titles: Titles) -> io::Result<()> {
+    for found in titles.list.iter().take(titles.count as usize) {
+        title(rt, *found)?;
     }
+    Ok(())
 }
 
 // The titles of a file, and their texts in a lent buffer.
-fn accepted_lines(titles: Titles, out: &[u8]) {
-    each_title(titles);
-    show::line();
+fn accepted_lines(rt: &impl Print, titles: Titles, out: &[u8]) -> io::Result<()> {
+    each_title(rt, titles)?;
+    show::line(rt)?;
     let texts = lent::texts_of(titles, out);
-    show::word(b"texts ");
-    show::mixed_line(texts);
-    lent::rest_line(past(out, texts.len()));
+    show::word(rt, b"texts ")?;
+    show::mixed_line(rt, texts)?;
+    lent::rest_line(rt, past(out, texts.len()))
 }
 
 // Reads a file, with a lent buffer for its texts.
-fn read(file: &[u8], out: &mut [u8]) {
+fn read(rt: &impl Print, file: &[u8], out: &mut [u8]) -> io::Result<()> {
     let reading = reader::read(file, out);
     let verdict = reading.verdict;
     let made = reading.made;
     let titles = made.titles;
     match verdict {
-        Verdict::Accepted => accepted_lines(titles, out),
+        Verdict::Accepted => accepted_lines(rt, titles, out),
         Verdict::Refused(refusal) => {
-            show::word(b" ");
-            lent::refused_lines(refusal, out);
+            show::word(rt, b" ")?;
+            lent::refused_lines(rt, refusal, out)
         }
     }
 }
 
 // The same with so many bytes for its texts.
-fn title_lines(file: &[u8], room: u16) {
+fn title_lines(rt: &impl Print, file: &[u8], room: u16) -> io::Result<()> {
     let mut out = [170u8; 16384];
-    let n = io::count(room as isize, &out);
-    show::word(b"titles");
-    read(file, &mut out[..n]);
+    let n = (room as usize).min(out.len());
+    show::word(rt, b"titles")?;
+    read(rt, file, &mut out[..n])
 }
 
-pub fn entry(table: &[u8]) -> usize {
+pub fn entry(rt: &impl Print, table: &[u8]) -> io::Result<usize> {
     let room = little::u16_or_zero(table, 2);
     let size = little::u32_or_zero(table, 4) as usize;
-    let at = label(table, 8);
+    let at = label(rt, table, 8)?;
     let file = little::bytes_from(table, BytePlace(at), BytePlace(size));
-    listing::list(file);
-    more_line(file);
-    sound_line(file);
-    title_lines(file, room);
-    at + size
+    listing::list(rt, file)?;
+    more_line(rt, file)?;
+    sound_line(rt, file)?;
+    title_lines(rt, file, room)?;
+    Ok(at + size)
 }

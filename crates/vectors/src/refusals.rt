@@ -2,6 +2,7 @@
 // row, and the meaning. It prints the row's number as `units` gives it, and the meaning; in row 0, instead of a
 // number, the largest that each unit holds.
 use crate::entries::label;
+use std::io;
 use units::{BytePlace, Donation, Frames, Refusal};
 
 // The refusal of a row.
@@ -32,26 +33,25 @@ fn refusal_in(row: u16) -> Refusal {
 }
 
 // It takes what the units hold with no cast, so it compiles only where their widths are these.
-fn largest(frames: u32, place: usize, donation: u32) {
-    show::field(b"frames ", frames as u64);
-    show::field(b" place ", place as u64);
-    show::field(b" donation ", donation as u64);
+fn largest(rt: &impl Print, frames: u32, place: usize, donation: u32) -> io::Result<()> {
+    show::field(rt, b"frames ", frames as u64)?;
+    show::field(rt, b" place ", place as u64)?;
+    show::field(rt, b" donation ", donation as u64)
 }
 
 // What stands before the meaning.
-fn front(row: u16) {
+fn front(rt: &impl Print, row: u16) -> io::Result<()> {
     if row == 0 {
         let frames = Frames(4294967295);
         let place = BytePlace(18446744073709551615);
         let song = Donation(4294967295);
-        largest(frames.0, place.0, song.0);
-        return;
+        return largest(rt, frames.0, place.0, song.0);
     }
-    show::number(units::number(refusal_in(row)) as u64);
-    show::word(b" ");
+    show::number(rt, units::number(refusal_in(row)) as u64)?;
+    show::word(rt, b" ")
 }
 
-pub fn entry(table: &[u8]) -> usize {
-    front(little::u16_or_zero(table, 2));
-    label(table, 4)
+pub fn entry(rt: &impl Print, table: &[u8]) -> io::Result<usize> {
+    front(rt, little::u16_or_zero(table, 2))?;
+    label(rt, table, 4)
 }

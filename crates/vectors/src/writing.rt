@@ -11,6 +11,7 @@ use crate::entries::label;
 use crate::lent;
 use formats::Format;
 use rules::Record;
+use std::io;
 use tables::{Cues, Playlist};
 use titles::{Title, Titles};
 use units::{BytePlace, Donation, Frames, TextPlace, Verdict};
@@ -125,7 +126,7 @@ fn same_record(a: Record, b: Record) -> bool {
 // Whether the texts of a record are the same in two buffers.
 fn same_texts(made: Record, a: &[u8], b: &[u8]) -> bool {
     let titles = made.titles;
-    check::same(lent::texts_of(titles, a), lent::texts_of(titles, b))
+    lent::texts_of(titles, a) == lent::texts_of(titles, b)
 }
 
 // Whether a file reads back as a record and its texts.
@@ -143,45 +144,68 @@ fn reads_back(file: &[u8], made: Record, texts: &[u8]) -> bool {
 // ---- writing
 
 // What was written to a lent buffer, and whether it reads back.
-fn written_lines(size: usize, out: &[u8], made: Record, texts: &[u8], sound: &[u8]) {
-    lent::written_lines(size, out);
+fn written_lines(
+    rt: &impl Print,
+    size: usize,
+    out: &[u8],
+    made: Record,
+    texts: &[u8],
+    sound: &[u8],
+) -> io::Result<()> {
+    lent::written_lines(rt, size, out)?;
     let file = little::bytes_from(out, BytePlace(0), BytePlace(size));
-    let back = reads_back(file, made, texts) && check::same(reader::sound_of(file), sound);
-    show::either(back, b"reads back", b"differs");
+    let back = reads_back(file, made, texts) && reader::sound_of(file) == sound;
+    show::either(rt, back, b"reads back", b"differs")
 }
 
 // Writes a record, its texts and its sound to a lent buffer; counted is the record with nothing past its counts.
-fn write(made: Record, counted: Record, texts: &[u8], sound: &[u8], out: &mut [u8]) {
+fn write(
+    rt: &impl Print,
+    made: Record,
+    counted: Record,
+    texts: &[u8],
+    sound: &[u8],
+    out: &mut [u8],
+) -> io::Result<()> {
     match writer::write(made, texts, sound, out) {
-        Written::Bytes(size) => written_lines(size.0, out, counted, texts, sound),
-        Written::Refused(refusal) => lent::refused_lines(refusal, out),
+        Written::Bytes(size) => written_lines(rt, size.0, out, counted, texts, sound),
+        Written::Refused(refusal) => lent::refused_lines(rt, refusal, out),
     }
 }
 
 // Writes the record of an entry, its texts and its sound.
-fn write_in(head: &[u8], cue: &[u8], plst: &[u8], titles: &[u8], texts: &[u8], sound: &[u8]) {
+fn write_in(
+    rt: &impl Print,
+    head: &[u8],
+    cue: &[u8],
+    plst: &[u8],
+    titles: &[u8],
+    texts: &[u8],
+    sound: &[u8],
+) -> io::Result<()> {
     let made = record_in(head, cue, plst, titles);
     let counted = counted_in(head, cue, plst, titles);
     let mut out = [170u8; 16384];
-    let room = io::count(little::u16_or_zero(head, 2) as isize, &out);
-    write(made, counted, texts, sound, &mut out[..room]);
+    let room = (little::u16_or_zero(head, 2) as usize).min(out.len());
+    write(rt, made, counted, texts, sound, &mut out[..room])
 }
 
-pub fn entry(table: &[u8]) -> usize {
+pub fn entry(rt: &impl Print, table: &[u8]) -> io::Result<usize> {
     let sound = little::u16_or_zero(table, 4) as usize;
     let cue = little::u16_or_zero(table, 6) as usize;
     let plst = little::u16_or_zero(table, 8) as usize;
     let titles = little::u16_or_zero(table, 20) as usize;
     let texts = little::u16_or_zero(table, 22) as usize;
-    let at = label(table, 44);
+    let at = label(rt, table, 44)?;
     let texts_at = at + cue + plst + titles;
     write_in(
+        rt,
         table,
         little::bytes_from(table, BytePlace(at), BytePlace(cue)),
         little::bytes_from(table, BytePlace(at + cue), BytePlace(plst)),
         little::bytes_from(table, BytePlace(at + cue + plst), BytePlace(titles)),
         little::bytes_from(table, BytePlace(texts_at), BytePlace(texts)),
         little::bytes_from(table, BytePlace(texts_at + texts), BytePlace(sound)),
-    );
-    texts_at + texts + sound
+    )?;
+    Ok(texts_at + texts + sound)
 }

@@ -29,8 +29,5 @@ fn main(rt: HostRuntime) -> io::Result<()> {
     if files::too_long(&rt, n)? {
         return Ok(());
     }
-    check(
-        &rt,
-        little::bytes_from(&buffer, BytePlace(0), BytePlace(n)),
-    )
+    check(&rt, little::bytes_from(&buffer, BytePlace(0), BytePlace(n)))
 }

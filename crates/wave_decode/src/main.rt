@@ -37,11 +37,7 @@ fn plain(made: Record) -> Record {
 }
 
 // Puts a file where it is to be, and says what it holds.
-fn keep(
-    rt: &impl Runtime,
-    frames: Frames,
-    file: &[u8],
-) -> io::Result<()> {
+fn keep(rt: &impl Runtime, frames: Frames, file: &[u8]) -> io::Result<()> {
     if !files::write(rt, "wave_decode", 2, file)? {
         return Ok(());
     }
@@ -50,12 +46,7 @@ fn keep(
 }
 
 // Writes the file of a record, the texts of its titles and its sound.
-fn write(
-    rt: &impl Runtime,
-    made: Record,
-    texts: &[u8],
-    sound: &[u8],
-) -> io::Result<()> {
+fn write(rt: &impl Runtime, made: Record, texts: &[u8], sound: &[u8]) -> io::Result<()> {
     let mut out = files::new_room();
     match wave::write(made, texts, sound, &mut out) {
         Written::Bytes(size) => keep(
@@ -109,8 +100,5 @@ fn main(rt: HostRuntime) -> io::Result<()> {
     if files::too_long(&rt, n)? {
         return Ok(());
     }
-    decode(
-        &rt,
-        little::bytes_from(&buffer, BytePlace(0), BytePlace(n)),
-    )
+    decode(&rt, little::bytes_from(&buffer, BytePlace(0), BytePlace(n)))
 }

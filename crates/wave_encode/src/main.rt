@@ -23,12 +23,7 @@ fn chased(rt: &impl Print, name: &[u8], count: Frames) -> io::Result<()> {
 }
 
 // Puts a file where it is to be, and says what it holds.
-fn keep(
-    rt: &impl Runtime,
-    frames: Frames,
-    told: Coded,
-    file: &[u8],
-) -> io::Result<()> {
+fn keep(rt: &impl Runtime, frames: Frames, told: Coded, file: &[u8]) -> io::Result<()> {
     if !files::write(rt, "wave_encode", 2, file)? {
         return Ok(());
     }
@@ -39,12 +34,7 @@ fn keep(
 }
 
 // Writes the file of a record, which has no titles, and its blocks.
-fn write(
-    rt: &impl Runtime,
-    made: Record,
-    told: Coded,
-    blocks: &[u8],
-) -> io::Result<()> {
+fn write(rt: &impl Runtime, made: Record, told: Coded, blocks: &[u8]) -> io::Result<()> {
     let mut out = files::new_room();
     match wave::write(made, b"", blocks, &mut out) {
         Written::Bytes(size) => keep(
@@ -87,11 +77,7 @@ fn heard(sound: &[i16], frames: Frames, channels: u16) -> &[i16] {
 }
 
 // Makes the copy of a file.
-fn copy(
-    rt: &impl Runtime,
-    file: &[u8],
-    align: u16,
-) -> io::Result<()> {
+fn copy(rt: &impl Runtime, file: &[u8], align: u16) -> io::Result<()> {
     let mut texts = files::texts_room();
     let reading = wave::read(file, &mut texts);
     let made = reading.made;

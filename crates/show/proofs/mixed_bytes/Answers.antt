@@ -19,9 +19,10 @@ module _ (values : List ℕ) (mix i : ℕ) (same : mixed_from mix (drop i values
   ends h = sym (ap (mixed_from mix) (drop_all i values h)) ∙ same
 
 pub loop-byte-preserved : goal.loop-byte-preserved
-loop-byte-preserved c =
-    (c.mixed-mix.ensures.bound,
-    next _ _ _ c.loop-byte.invariant.1 _ _ c.loop-byte-test.true c.wide.ensures.answer c.mixed-mix.ensures.answer)
+loop-byte-preserved c = (
+  c.mixed-mix.ensures.bound,
+  next _ _ _ c.loop-byte.invariant.1 _ _ c.loop-byte-test.true c.wide.ensures.answer c.mixed-mix.ensures.answer,
+)
 
 pub returns : goal.returns
 returns c = record { answer = ends _ _ _ c.loop-byte.invariant.1 c.loop-byte-test.false }
