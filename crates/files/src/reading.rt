@@ -1,5 +1,6 @@
 // Reading a file whole.
-ghost use Rattle.std.specs.Prelude.{◌≤◌, length, IfOk};
+ghost use Rattle.std.specs.Prelude.{◌<◌, ◌≤◌, length, take, IfOk};
+ghost use Rattle.std.specs.Io.KnownBytes.{Consumes, IsAtEnd};
 
 use crate::errors::failed;
 use crate::given::word;
@@ -18,6 +19,8 @@ pub enum Input {
 // Reads until there is no more or the lent buffer is full, and answers how many bytes it put at its start.
 pub fn fill<R: Read>(from: &mut R, out: &mut [u8]) -> io::Result<usize>
     ensures bound { IfOk result (λ n. n ≤ length out.new) }
+    ensures bytes { IfOk result (λ n. Consumes (R.remaining from.old) (R.remaining from.new) (take n out.new)) }
+    ensures end { IfOk result (λ n. n < length out.new → IsAtEnd (R.remaining from.new)) }
 {
     let mut n = 0;
     while n < out.len() {
