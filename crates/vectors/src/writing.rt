@@ -65,10 +65,8 @@ fn title_in(bytes: &[u8]) -> Title {
 fn titles_in(table: &[u8], count: u32) -> Titles {
     let none = titles::no_titles();
     let mut list = none.list;
-    let mut i = 0;
-    while i < 128 {
+    for i in 0..128 {
         list[i] = title_in(little::bytes_from(table, BytePlace(16 * i), BytePlace(16)));
-        i += 1;
     }
     Titles {
         count: count,
@@ -104,12 +102,10 @@ fn counted_in(head: &[u8], cue: &[u8], plst: &[u8], titles: &[u8]) -> Record {
 
 // Whether the words of two records are the same.
 fn same_words(a: &[u32; 906], b: &[u32; 906]) -> bool {
-    let mut i = 0;
-    while i < 906 {
+    for i in 0..906 {
         if a[i] != b[i] {
             return false;
         }
-        i += 1;
     }
     true
 }
