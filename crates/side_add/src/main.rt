@@ -4,7 +4,7 @@
 // nothing.
 //
 // SIDE and SONG may have 262,144 bytes each at most; a longer one is `refused 1`. So may the new side, which is
-// to be read again; a new side longer than that is `refused 14`. All is held on the stack, 0.8 MB.
+// to be read again; a new side longer than that is `refused 14`. All is held on the stack, 0.9 MB.
 #![tactic(auto)]
 
 use files::{Input, Said};

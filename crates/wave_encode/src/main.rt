@@ -4,7 +4,7 @@
 // number of the refusal, and then it writes nothing.
 //
 // IN may have 262,144 bytes at most; a longer one is `refused 1`. No such file lacks room. All is held on the
-// stack, 3.4 MB.
+// stack, 3.5 MB.
 #![tactic(auto)]
 
 use files::{Input, Said};
