@@ -1,5 +1,5 @@
 // Reading a file whole.
-ghost use Rattle.std.specs.Prelude.{◌<◌, ◌≤◌, length, take, IfOk};
+ghost use Rattle.std.specs.Prelude.{◌<◌, ◌≤◌, length, take, OnOk};
 ghost use Rattle.std.specs.Io.KnownBytes.{Consumes, IsAtEnd};
 
 use crate::errors::failed;
@@ -16,21 +16,22 @@ pub enum Input {
     Trouble,
 }
 
-// Reads until there is no more or the lent buffer is full, and answers how many bytes it put at its start.
-pub fn fill<R: Read>(from: &mut R, out: &mut [u8]) -> io::Result<usize>
-    ensures bound { IfOk result (λ n. n ≤ length out.new) }
-    ensures bytes { IfOk result (λ n. Consumes (R.remaining from.old) (R.remaining from.new) (take n out.new)) }
-    ensures end { IfOk result (λ n. n < length out.new → IsAtEnd (R.remaining from.new)) }
+// Reads until there is no more, a read fails or the lent buffer is full. Answers how many bytes it put at its start,
+// and why a read failed.
+pub fn fill<R: Read>(from: &mut R, out: &mut [u8]) -> (usize, io::Result<()>)
+    ensures bound { result.0 ≤ length out.new }
+    ensures bytes { Consumes (R.remaining from.old) (R.remaining from.new) (take result.0 out.new) }
+    ensures end { OnOk result.1 (result.0 < length out.new → IsAtEnd (R.remaining from.new)) }
 {
     let mut n = 0;
     while n < out.len() {
-        let more = from.read(&mut out[n..])?;
-        if more == 0 {
-            break;
+        match from.read(&mut out[n..]) {
+            Ok(0) => break,
+            Ok(more) => n += more,
+            Err(error) => return (n, Err(error)),
         }
-        n += more;
     }
-    Ok(n)
+    (n, Ok(()))
 }
 
 // A file's name as the text that the library asks for.
@@ -44,7 +45,9 @@ pub fn name_text(name: &[u8]) -> io::Result<&str> {
 // Opens a file and reads it to a lent buffer.
 fn read_file(rt: &impl Files, name: &[u8], out: &mut [u8]) -> io::Result<usize> {
     let mut file = fs::open(rt, name_text(name)?)?;
-    fill(&mut file, out)
+    let (n, read) = fill(&mut file, out);
+    read?;
+    Ok(n)
 }
 
 // Reads the file that a word names to a lent buffer, as much of it as there is room for.

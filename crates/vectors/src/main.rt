@@ -1,6 +1,6 @@
 // Runs the library on vectors. Standard input is entries one after the other, in 524,288 bytes: a byte says the
 // operation, and its module says what follows. Past the end of the input all is 0, as in `little`, so that any
-// bytes are entries.
+// bytes are entries. Where a read fails, the input ends.
 #![tactic(auto)]
 
 mod adding;
@@ -53,7 +53,7 @@ fn entry(rt: &impl Print, operation: u8, table: &[u8]) -> io::Result<usize> {
 
 fn main(rt: HostRuntime) -> io::Result<()> {
     let mut buffer = room();
-    let n = files::fill(&mut rt.stdin(), &mut buffer)?;
+    let (n, _) = files::fill(&mut rt.stdin(), &mut buffer);
     let mut table = &buffer[..n];
     while 0 < table.len() {
         let body = past(table, 1);

@@ -1,7 +1,7 @@
 -- What stands in the buffer is what was read: each read puts more after it.
 use Rattle.std.proofs.Common.{◌≡◌, ℕ, ◌+◌, ◌-◌, ◌≤◌, List, ◌++◌, rules, arith, length, take, slice_range, sym, ap, ◌∙◌, subst, le_refl, drop_at, length-take-le, Option}
 use Rattle.std.proofs.lemmas.Slice.{take-put_mid_below}
-use Rattle.std.proofs.KnownBytes.{Consumes-nil, Consumes-trans}
+use Rattle.std.proofs.KnownBytes.{Consumes-trans}
 use Rattle.std.specs.Io.KnownBytes.{Consumes}
 use borrow.Rule.Slice.PartMut.{put_mid, post_of}
 use lib.Seq.{take-add, take-append-le}
@@ -29,27 +29,8 @@ filled a b c n more k out part before now within fits =
     subst (Consumes a c) (ap (λ l. take n out ++ l) (sym (slice_range-put_mid n k more out part within fits)) ∙ joined)
     (Consumes-trans _ _ _ _ _ before now)
 
-pub loop-n-init : goal.loop-n-init
-loop-n-init g c = (search rules, search rules, Consumes-nil _)
-
 pub loop-n-preserved : goal.loop-n-preserved
-loop-n-preserved g c = (
-  search rules,
-  search rules,
-  filled _ _ _ _ _ _ _ _ c.loop-n.invariant.2 c.in_ok-more.ensures.bytes.0 c.loop-n.invariant.1
-      c.in_ok-more.ensures.bound.0,
-)
-
-at_end :
-    (a b c : Option (List ℕ)) (n more k : ℕ) (out part : List ℕ) → Consumes a b (take n out)
-    → Consumes b c (take more part) → n ≤ length out → more ≤ length part → more ≡ 0
-    → Consumes a c (take n (put_mid n k out part))
-at_end a b c n more k out part before now within fits none =
-    let same : n + more ≡ n = omega arith in
-    subst (λ m. Consumes a c (take m (put_mid n k out part))) same
-    (filled a b c n more k out part before now within fits)
-
-pub returns-then-more-eq0-clause-bytes : goal.returns-then-more-eq0-clause-bytes
-returns-then-more-eq0-clause-bytes g c =
-    at_end _ _ _ _ _ _ _ _ c.loop-n.invariant.2 c.in_ok-more.ensures.bytes.0 c.loop-n.invariant.1
-    c.in_ok-more.ensures.bound.0 c.if-more-eq0.true
+loop-n-preserved g c =
+    (search rules,
+    search rules,
+    filled _ _ _ _ _ _ _ _ c.loop-n.invariant.2 c.in-Ok.ensures.bytes.0 c.loop-n.invariant.1 c.in-Ok.ensures.bound.0)
