@@ -1,6 +1,12 @@
 // Trouble, in one line on standard error.
 use std::alloc::{AllocError, Allocator};
+use std::fmt::Display;
 use std::io;
+
+// Words, as they stand.
+pub fn say(rt: &impl Eprint, words: impl Display + Drop) -> io::Result<()> {
+    rt.eprint(words)
+}
 
 // The system's reason in its own words, without the number that std puts after them.
 fn reason<A: Allocator>(alloc: A, error: io::Error) -> Result<String<A>, AllocError> {
@@ -21,5 +27,8 @@ pub fn failed<R: Eprint + Alloc>(
 ) -> io::Result<()> {
     let name = String::from_utf8_lossy(rt.alloc(), name)?;
     let reason = reason(rt.alloc(), error)?;
-    eprintln!(rt; "{program}: cannot {deed} {name}: {reason}")
+    say(
+        rt,
+        format_args!("{program}: cannot {deed} {name}: {reason}\n"),
+    )
 }

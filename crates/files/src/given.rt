@@ -1,6 +1,7 @@
 // The words that a program is called with.
 ghost use Rattle.std.specs.Prelude.{◌≤◌, length};
 
+use crate::errors::say;
 use std::env::{Env, FillError};
 use std::io;
 
@@ -31,7 +32,7 @@ fn word_count(rt: &impl Env) -> usize {
 
 // Says how a program is called.
 fn usage(rt: &impl Eprint, words: &str) -> io::Result<()> {
-    eprintln!(rt; "usage: {words}")
+    say(rt, format_args!("usage: {words}\n"))
 }
 
 // Whether a program is called with so many words, its own name among them; if not, it says how it is called.

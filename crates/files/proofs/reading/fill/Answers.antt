@@ -30,7 +30,8 @@ filled a b c n more k out part before now within fits =
     (Consumes-trans _ _ _ _ _ before now)
 
 pub loop-n-preserved : goal.loop-n-preserved
-loop-n-preserved g c =
-    (search rules,
-    search rules,
-    filled _ _ _ _ _ _ _ _ c.loop-n.invariant.2 c.in-Ok.ensures.bytes.0 c.loop-n.invariant.1 c.in-Ok.ensures.bound.0)
+loop-n-preserved g c = (
+  search rules,
+  search rules,
+  filled _ _ _ _ _ _ _ _ c.loop-n.invariant.2 c.in-Ok.ensures.bytes.0 c.loop-n.invariant.1 c.in-Ok.ensures.bound.0,
+)
