@@ -23,7 +23,7 @@ fn stored<F: Write + OpenFile + Drop>(mut file: F, bytes: &[u8]) -> io::Result<(
     file.sync_all()
 }
 
-// Takes away a file that is not whole. It is in no use, so trouble with that is not reported.
+// Takes away a file that is not whole. Why it is not whole is reported, and trouble with taking it away is not.
 fn remove(rt: &impl Files, name: &[u8]) -> io::Result<()> {
     fs::remove_file(rt, name_text(name)?)
 }
