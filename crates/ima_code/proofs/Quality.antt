@@ -1,5 +1,5 @@
--- Demand 3 of one sample: how near it is decoded, by arithmetic over the eight ways to set the bits. Assumes nothing.
-use mathlib.Core.Path.{◌≡◌, sym, ◌∙◌, ap, subst}
+-- Demand 3 of one sample: how near it is decoded. Assumes nothing.
+use mathlib.Core.Path.{◌≡◌, sym, ◌∙◌, ap}
 use mathlib.Core.Bool.{Bool, true, false, cond}
 use Prim.Native.Nat.{ℕ, suc, ◌+◌, ◌-◌, ◌*◌, ◌/◌, ◌%◌, ◌≤◌, ◌<◌, min}
 use native.Mathlib.Omega.{arith}
@@ -9,57 +9,15 @@ use lib.Signed.{lt_z, ◌≤ℤ◌}
 use mir.Syntax.{w16}
 use mir.Val.{SFits}
 use borrow.Author.Tests.{leb-true, leb-false, le-leb, lt-leb}
-use Rattle.samples.proofs.Signed.{Is, by-leb, by-ltb, is_pos, is-neg, is-add, is-gap, is-abs, is_lt, is_le, le_is}
+use Rattle.samples.proofs.Signed.{Is, by-ltb, is_pos, is-neg, is-add, is-gap, is-abs, is_lt, is_le, le_is}
 use Rattle.samples.proofs.Laws.{Raised, raised, hold-is}
 use Rattle.ima_code.specs.declared.ImaState.{ImaState}
-use Rattle.ima_code.specs.Code.{step_at, has_bit, difference_size, signed_by, index_from, after_code, bits_for, code_of, code_for, tracked, is_chased}
+use Rattle.ima_code.specs.Code.{step_at, difference_size, signed_by, index_from, after_code, bits_for, code_of, code_for, tracked, is_chased}
 use Rattle.ima_code.specs.Quality.{InRange, Faithful, Between, Later}
 use Rattle.ima_code.proofs.Table.{step_range}
 use Rattle.ima_code.proofs.Laws.{index-up}
-use Rattle.ima_code.proofs.Coding.{bits-7, bits-6, bits-5, bits-4, bits-3, bits-2, bits-1, bits-0, bits_below, code-low, code-says}
-
--- ---- the bits of a magnitude m at a step s
-abbrev slack : ℕ → ℕ
-slack s = s / 8 + 2
-
--- a magnitude that is not chased: the size z of its bits is not far over or under it
-record Missed (s m z : ℕ) : Type 0 where
-  over : z ≤ m + s / 8
-  under : m ≤ z + slack s
-
--- one that is chased: the size is a step at least, and falls short
-record Short (s m z : ℕ) : Type 0 where
-  least : s ≤ z
-  most : z + s / 8 ≤ m
-
-module _ (s m : ℕ) where
-  abbrev Miss : ℕ → Type 0
-  Miss k = Missed s m (difference_size s k)
-
-  missed : m < 2 * s → Miss (bits_for s m)
-  unfolding difference_size has_bit
-  missed l =
-      split s m
-      (λ a. split (s / 2) (m - s)
-      (λ b. split (s / 4) (m - s - s / 2)
-      (λ c. subst Miss (bits-7 s m a b c) (omega arith)) (λ c. subst Miss (bits-6 s m a b c) (omega arith)))
-      (λ b. split (s / 4) (m - s)
-      (λ c. subst Miss (bits-5 s m a b c) (omega arith)) (λ c. subst Miss (bits-4 s m a b c) (omega arith))))
-      (λ a. split (s / 2) m
-      (λ b. split (s / 4) (m - s / 2)
-      (λ c. subst Miss (bits-3 s m a b c) (omega arith)) (λ c. subst Miss (bits-2 s m a b c) (omega arith)))
-      (λ b. split (s / 4) m
-      (λ c. subst Miss (bits-1 s m a b c) (omega arith)) (λ c. subst Miss (bits-0 s m a b c) (omega arith))))
-    where
-      split : (a b : ℕ) → (a ≤ b → Miss (bits_for s m)) → (b < a → Miss (bits_for s m)) → Miss (bits_for s m)
-      split a b f g = by-leb a b (λ _. Miss (bits_for s m)) f g
-
-  all-bits : 2 * s ≤ m → 7 ≡ bits_for s m
-  all-bits h = bits-7 s m (omega arith) (omega arith) (omega arith)
-
-  short : 2 * s ≤ m → Short s m (difference_size s (bits_for s m))
-  unfolding difference_size has_bit
-  short h = subst (λ (k : ℕ). Short s m (difference_size s k)) (all-bits h) (omega arith)
+use Rattle.ima_code.proofs.Coding.{bits_below, code-low, code-says}
+use Rattle.ima_code.proofs.Missed.{slack, missed, all-bits, short}
 
 -- ---- samples as naturals, raised by 32768: from u toward v at step s it comes to w
 abbrev gap : ℕ → ℕ → ℕ

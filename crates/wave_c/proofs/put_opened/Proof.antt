@@ -4,22 +4,16 @@ use borrow.Author.Rules.{rules}
 use Rattle.wave_c.proofs.put_opened.Statement.{statement}
 use Rattle.wave_c.proofs.put_opened.Tie as tie
 
-returns : tie.Need-returns-then-out-lt-WORDS
-returns c = (search (rules, putting), (search (rules, putting), search (rules, putting)))
-
-returns-2 : tie.Need-returns-then-not-put_texts
-returns-2 c = (search (rules, putting), (search (rules, putting), search (rules, putting)))
-
-returns-3 : tie.Need-returns-then-there
-returns-3 c = (search (rules, putting), (search (rules, putting), search (rules, putting)))
-
-returns-4 : tie.Need-returns
-returns-4 c = (search (rules, putting), (search (rules, putting), search (rules, putting)))
-
 pub put_opened_spec : {M : Type 1} → statement M
 put_opened_spec =
     tie.close
-    (tie.spec (λ c κs. search (rules, putting)) returns (λ c κs. search (rules, putting)) (λ c κs. search (rules, putting))
-    (λ c κs. search (rules, putting)) (λ c. search (rules, putting)) returns-2 (λ c κs. search (rules, putting))
-    (λ c κs. search (rules, putting)) (λ c. search (rules, putting)) (λ c. search (rules, putting)) returns-3
-    (λ c κs. search (rules, putting)) (λ c. search (rules, putting)) (λ c. search (rules, putting)) returns-4)
+    (tie.spec (λ c κs. search (rules, putting))
+    (λ c. (search (rules, putting), (search (rules, putting), search (rules, putting))))
+    (λ c κs. search (rules, putting)) (λ c κs. search (rules, putting))
+    (λ c κs. search (rules, putting)) (λ c. search (rules, putting))
+    (λ c. (search (rules, putting), (search (rules, putting), search (rules, putting))))
+    (λ c κs. search (rules, putting)) (λ c κs. search (rules, putting))
+    (λ c. search (rules, putting)) (λ c. search (rules, putting))
+    (λ c. (search (rules, putting), (search (rules, putting), search (rules, putting))))
+    (λ c κs. search (rules, putting)) (λ c. search (rules, putting)) (λ c. search (rules, putting))
+    (λ c. (search (rules, putting), (search (rules, putting), search (rules, putting)))))
