@@ -1,5 +1,5 @@
-// What the programs on files share: the words that they are called with, a file read whole, a new file written,
-// and how long a file is. Whatever goes wrong is reported in one line on standard error.
+// What programs share: the words that they are called with, a file or standard input read whole, a new file written,
+// and how long a file is. What goes wrong with a file is reported in one line on standard error.
 #![tactic(auto)]
 
 mod errors;

@@ -23,7 +23,7 @@ fn stored<F: Write + OpenFile + Drop>(mut file: F, bytes: &[u8]) -> io::Result<(
     file.sync_all()
 }
 
-// Takes away a file that is not whole. Why it is not whole is reported, and trouble with taking it away is not.
+// Takes away a file that is not whole.
 fn remove(rt: &impl Files, name: &[u8]) -> io::Result<()> {
     fs::remove_file(rt, name_text(name)?)
 }
@@ -46,8 +46,10 @@ pub fn write<R: Files + Env + Eprint + Alloc>(
         }
     };
     if let Err(error) = stored(file, bytes) {
+        let told = failed(rt, program, "write", &name[..n], error);
+        // Trouble with taking it away too is not reported.
         let _ = remove(rt, &name[..n]);
-        failed(rt, program, "write", &name[..n], error)?;
+        told?;
         return Ok(false);
     }
     Ok(true)
