@@ -33,5 +33,7 @@ pub loop-n-preserved : goal.loop-n-preserved
 loop-n-preserved g c = (
   search rules,
   search rules,
-  filled _ _ _ _ _ _ _ _ c.loop-n.invariant.2 c.in-Ok.ensures.bytes.0 c.loop-n.invariant.1 c.in-Ok.ensures.bound.0,
+  search
+      (filled _ _ _ _ _ (length c.loop-n.out - c.loop-n.n) _ _ c.loop-n.invariant.2 c.in-Ok.ensures.bytes.0
+      c.loop-n.invariant.1 c.in-Ok.ensures.bound.0),
 )
