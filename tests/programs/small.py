@@ -245,8 +245,33 @@ def full_disk():
         trouble(call, f'{call[0]}: cannot write new.wav: File too large', **limited(resource.RLIMIT_FSIZE, 500))
 
 
+def names_of_no_text():
+    """A file whose name is no text is neither read nor made; a mark stands for each byte that is none."""
+    name, shown = 'caf\udce9.wav', 'caf\N{REPLACEMENT CHARACTER}.wav'
+    for deed, calls, files in (('read', reading(name), {**FILES, name: SONG}), ('make', writing(name), FILES)):
+        for program, *words in calls:
+            tried(f'{program}, a name that is no text', [*command(program), *words], files,
+                  (0, '', f'{program}: cannot {deed} {shown}: invalid filename\n'), {})
+
+
+def full_output():
+    """Where standard output takes nothing, a program says so and ends with 1; a file that it has written stays, whole.
+    Where standard error takes nothing, it can only end with 1."""
+    said = 'Error: Os { code: 28, kind: StorageFull, message: "No space left on device" }\n'
+    made = {'wave_decode': answer(second_command.decode, SONG)[1],
+            'wave_encode': answer(second_command.encode, SONG, 256)[1],
+            'side_add': answer(second_command.add, EMPTY, SONG, 7, 10000)[1]}
+    for program, *words in [['wave_check', 'song.wav'], *writing('new.wav')]:
+        to_full = ['sh', '-c', 'exec "$0" "$@" >/dev/full', *command(program), *words]
+        tried(f'{program}, a full standard output', to_full, FILES, (1, '', said),
+              {'new.wav': made[program]} if program in made else {})
+        tried(f'{program}, a full standard error', ['sh', '-c', 'exec "$0" 2>/dev/full', *command(program)], FILES,
+              (1, '', ''), {})
+
+
 def main():
     for part in (on_other_files, on_kept_sides, on_titles, at_the_limit, sides_at_the_limit, above_the_limit, numbers,
-                 aligns, names, wrong_calls, wrong_numbers, not_read, not_made, full_disk):
+                 aligns, names, wrong_calls, wrong_numbers, not_read, not_made, full_disk, names_of_no_text,
+                 full_output):
         part()
     return report('tests/programs')
