@@ -25,7 +25,6 @@ use Rattle.formats.proofs.Making.{Codable, codable-is, stored-per}
 use Rattle.codec.specs.Codec.{frames_heard, headers_valid}
 use Rattle.ima_block.specs.Block.{ima}
 use Rattle.encode.specs.declared.Coded.{Coded}
-use Rattle.encode.specs.declared.Encoded.TheVariants.{Blocks}
 use Rattle.encode.specs.Encoding.{blocks_for, encoded_bytes, encode_verdict}
 use Rattle.encode.specs.Answer.{coded_of, encoding}
 use Rattle.encode.specs.Demands.{frame_of, block_of_bytes, heard_at, Heard, Quality}
@@ -46,9 +45,10 @@ use Rattle.approval.specs.Approval.{approval_record}
 use Rattle.approval.specs.Demands.{record_for, RulesHold, step_after, Approved, WholeWay, CopyWritten, Met}
 use Rattle.approval.proofs.Rules.{blocks-are, rules-hold}
 use Rattle.approval.proofs.Sending.{kept_same, titles-right, record-fits, file-below}
+use Rattle.std.specs.Prelude.{Ok}
 
 -- ---- what an answer that is blocks says
-encoded-says : (s : List ℤ) (c a room : ℕ) (w : Coded) → encoding s c a room ≡ Blocks w → Settled (length s) c a room
+encoded-says : (s : List ℤ) (c a room : ℕ) (w : Coded) → encoding s c a room ≡ Ok w → Settled (length s) c a room
 unfolding encoding
 encoded-says s c a room w e =
     settled_says (length s) c a room (accepted (encode_verdict (length s) c a room) e).0
@@ -181,7 +181,7 @@ sent s c rate a room size told e h g fits =
 abbrev two : List ℤ
 two = pos 0 ∷ pos 13 ∷ []
 
-two-taken : encoding two 1 12 12 ≡ Blocks (coded_of 1 12 two)
+two-taken : encoding two 1 12 12 ≡ Ok (coded_of 1 12 two)
 unfolding encoding encode_verdict decided codable blocks_for ima_samples
 two-taken = refl
 

@@ -1,6 +1,6 @@
 -- Demand 3 for the approval copy: its record may be written with the blocks that encoding made, and whoever decodes the
 -- file hears the sound as well as the demand says. Assumes nothing.
-use Rattle.std.specs.Prelude.{ℕ, ◌+◌, ◌-◌, ◌*◌, ◌/◌, ◌%◌, ◌≤◌, ◌<◌, ◌≡◌, true, false, List, [], ◌∷◌, ℤ, pos, nat_abs, ◌-ℤ◌, length}
+use Rattle.std.specs.Prelude.{ℕ, ◌+◌, ◌-◌, ◌*◌, ◌/◌, ◌%◌, ◌≤◌, ◌<◌, ◌≡◌, true, false, List, [], ◌∷◌, ℤ, pos, nat_abs, ◌-ℤ◌, length, Ok}
 use Rattle.units.specs.declared.BytePlace.{BytePlace}
 use Rattle.formats.specs.Format.{ima_samples, codable, ima_format, format_rule}
 use Rattle.rules.specs.declared.Record.{Record}
@@ -9,13 +9,10 @@ use Rattle.reader.specs.Content.{holds, content_of, sound_in}
 use Rattle.ima_code.specs.Code.{step_at}
 use Rattle.ima_code.specs.Quality.{Sixteen, Between, at_most}
 use Rattle.encode.specs.declared.Coded.{Coded}
-use Rattle.encode.specs.declared.Encoded.TheVariants.{Blocks}
 use Rattle.encode.specs.Encoding.{encoded_bytes}
 use Rattle.encode.specs.Answer.{coded_of, encoding}
 use Rattle.encode.specs.Demands.{frame_of, heard_at, chased_frames, Heard}
-use Rattle.decode.specs.declared.Decoded.TheVariants.{Frames}
 use Rattle.decode.specs.Decoding.{decoding, file_sound}
-use Rattle.writer.specs.declared.Written.TheVariants.{Bytes}
 use Rattle.writer.specs.File.{file_of, writing}
 use Rattle.approval.specs.Approval.{approval_record}
 
@@ -42,7 +39,7 @@ pub record Copy (s : List ℤ) (c a : ℕ) (told : Coded) (file : List ℕ) (roo
   -- its sound data are the blocks of the sound
   pub sound : sound_in file ≡ encoded_bytes c a s
   -- all its frames come back
-  pub frames : decoding file room ≡ Frames (record { 0 = length s / c })
+  pub frames : decoding file room ≡ Ok (record { 0 = length s / c })
   pub long : length (file_sound file) ≡ length s
   -- what is decoded is what the demand speaks of
   pub decoded : (ch f : ℕ) → ch < c → f < length s / c
@@ -74,7 +71,7 @@ pub record Copy (s : List ℤ) (c a : ℕ) (told : Coded) (file : List ℕ) (roo
 unfoldable pub Approved : Type 0
 Approved =
     (s : List ℤ) (c rate a room most : ℕ) (told : Coded) (m : Record) (file : List ℕ) → Sixteen s
-    → encoding s c a room ≡ Blocks told
+    → encoding s c a room ≡ Ok told
     → m.format ≡ ima_format c rate a → m.frames ≡ record { 0 = length s / c }
     → content_of file ≡ holds m (encoded_bytes c a s)
     → length s ≤ most → Copy s c a told file most
@@ -84,8 +81,8 @@ Approved =
 unfoldable pub WholeWay : Type 0
 WholeWay =
     (s : List ℤ) (c rate a room size most : ℕ) (told : Coded) (n : BytePlace) → Sixteen s
-    → encoding s c a room ≡ Blocks told
-    → writing (record_for s c rate a) [] (encoded_bytes c a s) size ≡ Bytes n
+    → encoding s c a room ≡ Ok told
+    → writing (record_for s c rate a) [] (encoded_bytes c a s) size ≡ Ok n
     → length s ≤ most
     → Copy s c a told (file_of (record_for s c rate a) [] (encoded_bytes c a s)) most
 
@@ -93,10 +90,10 @@ WholeWay =
 -- file: the file is never above the limit
 unfoldable pub CopyWritten : Type 0
 CopyWritten =
-    (s : List ℤ) (c rate a room size : ℕ) (told : Coded) → encoding s c a room ≡ Blocks told → 1 ≤ rate → rate ≤ 192000
+    (s : List ℤ) (c rate a room size : ℕ) (told : Coded) → encoding s c a room ≡ Ok told → 1 ≤ rate → rate ≤ 192000
     → length (file_of (record_for s c rate a) [] (encoded_bytes c a s)) ≤ size
     → writing (record_for s c rate a) [] (encoded_bytes c a s) size
-    ≡ Bytes (record { 0 = length (file_of (record_for s c rate a) [] (encoded_bytes c a s)) })
+    ≡ Ok (record { 0 = length (file_of (record_for s c rate a) [] (encoded_bytes c a s)) })
 
 -- ---- and the premises can be met: two samples, mono, in a block of 12 bytes
 unfoldable pub Met : Type 0
@@ -104,5 +101,5 @@ Met =
     let two : List ℤ = pos 0 ∷ pos 13 ∷ [] in
     let file : List ℕ = file_of (record_for two 1 8000 12) [] (encoded_bytes 1 12 two) in
     (size : ℕ) → length file ≤ size
-    → (writing (record_for two 1 8000 12) [] (encoded_bytes 1 12 two) size ≡ Bytes (record { 0 = length file }))
+    → (writing (record_for two 1 8000 12) [] (encoded_bytes 1 12 two) size ≡ Ok (record { 0 = length file }))
     × Copy two 1 12 (coded_of 1 12 two) file 2

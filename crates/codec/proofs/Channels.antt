@@ -1,34 +1,29 @@
 -- Laws for one channel or two: the check of their headers, and what a function for either asks and gives. Assumes nothing.
-use mathlib.Core.Path.{◌≡◌, sym, ap, ◌∙◌}
-use mathlib.Core.Bool.{Bool, true, false, ◌&&◌}
+use mathlib.Core.Path.{◌≡◌}
+use mathlib.Core.Bool.{Bool, true, false}
 use mathlib.Core.List.{List}
-use Prim.Native.Nat.{ℕ, suc, ◌+◌, ◌-◌, ◌*◌, ◌≤◌, ◌<◌}
+use Prim.Native.Nat.{ℕ, ◌+◌, ◌*◌, ◌≤◌, ◌<◌}
 use native.Mathlib.Omega.{arith}
 use lib.IntN.{ℤ}
 use Rattle.little.specs.Writing.{Put}
-use Rattle.lists.specs.Every.{every}
-use Rattle.lists.proofs.Laws.{and-true, every-at}
+use Rattle.lists.proofs.Laws.{every-at, Holding, hold-ends, hold-fails, hold-next}
 use Rattle.codec.specs.Codec.{Codec, Decodable, headers_valid, frames_heard}
 
--- ---- the check, header by header
+-- ---- the check, header by header: those of the channels below i are in range
+module _ {S : Type 0} (k : Codec S) (b : List ℕ) {c i : ℕ} (w : Holding (k.valid c b) c i) where
+  pub header-ends : c ≤ i → true ≡ headers_valid k c b
+  unfolding headers_valid
+  header-ends h = hold-ends w h
+
+  module _ (h : i < c) {r : Bool} (e : r ≡ k.valid c b i) where
+    pub header-fails : r ≡ false → false ≡ headers_valid k c b
+    unfolding headers_valid
+    header-fails f = hold-fails w h e f
+
+    pub header-next : r ≡ true → Holding (k.valid c b) c (i + 1)
+    header-next f = hold-next w h e f
+
 module _ {S : Type 0} (k : Codec S) (b : List ℕ) {c : ℕ} where
-  module _ (l : 1 ≤ c) where
-    pub first-refused : k.valid c b 0 ≡ false → false ≡ headers_valid k c b
-    unfolding headers_valid every
-    first-refused e =
-        let n : c ≡ suc (c - 1) = omega arith in
-        sym (ap (every (k.valid c b) 0) n ∙ simp e)
-
-    pub only-valid : k.valid c b 0 ≡ true → c ≡ 1 → true ≡ headers_valid k c b
-    unfolding headers_valid every
-    only-valid e n = sym (ap (every (k.valid c b) 0) n ∙ simp e)
-
-    pub second-decides : c ≤ 2 → k.valid c b 0 ≡ true → (c ≡ 1 → ⊥) → k.valid c b 1 ≡ headers_valid k c b
-    unfolding headers_valid every
-    second-decides u e n =
-        let m : c ≡ 2 = omega arith in
-        sym (ap (every (k.valid c b) 0) m ∙ ap (λ (x : Bool). x && (k.valid c b 1 && true)) e ∙ and-true (k.valid c b 1))
-
   pub each-valid : headers_valid k c b ≡ true → (ch : ℕ) → ch < c → k.valid c b ch ≡ true
   unfolding headers_valid
   each-valid e ch h = every-at (k.valid c b) 0 c ch e (omega arith) (omega arith)

@@ -2,12 +2,12 @@
 -- turn writes the samples of its codes. Good is what a state must keep for its next step. Assumes nothing.
 use mathlib.Core.Path.{◌≡◌, refl, ap, ◌∙◌}
 use mathlib.Core.List.{List, [], ◌∷◌, ◌++◌}
-use Prim.Native.Nat.{ℕ, suc, ◌+◌, ◌-◌, ◌*◌, ◌/◌, ◌≤◌, ◌<◌}
+use Prim.Native.Nat.{ℕ, suc, ◌+◌, ◌-◌, ◌*◌, ◌≤◌, ◌<◌}
 use native.Mathlib.Omega.{arith}
 use lib.IntN.{ℤ}
 use lib.ListN.{length, take, drop, get_or, set}
-use mir.Syntax.{w8, w16, w32}
-use mir.Val.{Fits, SFits}
+use mir.Syntax.{w16}
+use mir.Val.{SFits}
 use mir.Facts.{to_z-of_z}
 use Rattle.little.specs.Writing.{Put}
 use Rattle.little.proofs.Filling.{Filled, two-stores, filled_none, filled-store, filled-piece, filled_put}
@@ -15,14 +15,6 @@ use Rattle.lists.specs.Turns.{joined, in_turn}
 use Rattle.samples.proofs.Signed.{back}
 use Rattle.codec.specs.Codec.{Codec, heard_from, nibbles}
 use Rattle.codec.proofs.Heard.{code-next, byte_next}
-
--- ---- the high nibble of a byte
-module _ (s : List ℕ) (i : ℕ) (f : (k : ℕ) → Fits w8 (get_or s k 0)) where
-  pub high_fits : Fits w32 (get_or s i 0 / 16)
-  high_fits = let b = (f i).fits in record { fits = omega arith }
-
-  pub high-below : get_or s i 0 / 16 < 16
-  high-below = let b = (f i).fits in omega arith
 
 -- ---- one channel, two codes in a byte: n frames are left, from byte i of s on
 abbrev one_left : {S : Type 0} → Codec S → (ℕ → ℕ) → (ℕ → ℕ) → List ℕ → ℕ → S → ℕ → List ℤ
@@ -38,17 +30,9 @@ pub record Single {S : Type 0} (k : Codec S) (Good : S → Type 0) (first second
 
 module _ {S : Type 0} {k : Codec S} {Good : S → Type 0} {first second : ℕ → ℕ}
     {s : List ℕ} {from frames : ℕ} {out₀ : List ℤ} {at : ℕ} {t₀ : S} where
-  pub single-begins : frames + 2 * from ≤ 2 * length s → at + frames ≤ length out₀ → Good t₀
-      → Single k Good first second s from frames out₀ at t₀ out₀ t₀ frames at from
-  single-begins h r g =
-      record { good = g; bytes = h; room = r; start = omega arith; filled = filled_none (omega arith) }
-
   module _ {out : List ℤ} {t : S} {n to i : ℕ} (w : Single k Good first second s from frames out₀ at t₀ out t n to i) where
-    pub single-byte : 2 ≤ n → i < length s
+    single-byte : 2 ≤ n → i < length s
     single-byte h = omega (arith, w.bytes)
-
-    pub single-second : 2 ≤ n → to + 1 < length out
-    single-second h = omega (arith, w.room)
 
     -- a turn: the two frames of a byte
     module _ (h : 2 ≤ n) {x y : S} (e : x ≡ k.step t (first (get_or s i 0))) (f : y ≡ k.step x (second (get_or s i 0))) where
@@ -59,12 +43,13 @@ module _ {S : Type 0} {k : Codec S} {Good : S → Type 0} {first second : ℕ �
           ap (λ (j : ℕ). one_left k first second s j t i) m
           ∙ ap (λ (l : List ℤ). in_turn 1 (suc (suc (n - 2))) (l ∷ [])) (byte_next k first second t s i (single-byte h) e f)
 
-      pub single-turn : Good y → SFits w16 (k.sample x) → SFits w16 (k.sample y)
-          → Single k Good first second s from frames out₀ at t₀
-          (set (set out to (back w16 (k.sample x))) (to + 1) (back w16 (k.sample y))) y (n - 2) (to + 2) (i + 1)
-      single-turn g a b =
+      pub single-turn : {m p q j : ℕ} → m ≡ n - 2 → p ≡ to + 1 → q ≡ to + 2 → j ≡ i + 1
+          → {u v : ℤ} → u ≡ back w16 (k.sample x) → v ≡ back w16 (k.sample y)
+          → Good y → SFits w16 (k.sample x) → SFits w16 (k.sample y)
+          → Single k Good first second s from frames out₀ at t₀ (set (set out to u) p v) y m q j
+      single-turn c d o l u' v' g a b =
           let z = filled-piece w.filled (two-stores (omega (arith, w.room))) single-two refl (omega (arith, w.room)) in
-          rw (to_z-of_z a, to_z-of_z b)
+          rw (u', v', to_z-of_z a, to_z-of_z b, c, d, o, l)
           (record {
             good = g;
             bytes = omega (arith, w.bytes);
@@ -75,27 +60,23 @@ module _ {S : Type 0} {k : Codec S} {Good : S → Type 0} {first second : ℕ �
 
     -- an odd frame is the last: the first code of the next byte
     module _ (h : n ≡ 1) where
-      pub single-last : i < length s
+      single-last : i < length s
       single-last = omega (arith, w.bytes)
 
-      pub single-odd : {x : S} → x ≡ k.step t (first (get_or s i 0)) → SFits w16 (k.sample x)
-          → Put out₀ at (one_left k first second s frames t₀ from) (set out to (back w16 (k.sample x)))
+      pub single-odd : {x : S} {p j : ℕ} {u : ℤ} → p ≡ to → j ≡ i → x ≡ k.step t (first (get_or s j 0)) → u ≡ back w16 (k.sample x)
+          → SFits w16 (k.sample x) → Put out₀ at (one_left k first second s frames t₀ from) (set out p u)
       unfolding in_turn joined
-      single-odd e a =
+      single-odd c d q u' a =
+          let e = rw d at q in
           let m = ap (λ (j : ℕ). one_left k first second s j t i) h
           ∙ ap (λ (l : List ℤ). in_turn 1 1 (l ∷ [])) (byte_next k first second t s i single-last e refl) in
-          rw (to_z-of_z a) (filled_put (filled-store w.filled m (omega (arith, w.room)) refl) w.start)
+          rw (u', to_z-of_z a, c) (filled_put (filled-store w.filled m (omega (arith, w.room)) refl) w.start)
 
     pub single-even : n < 2 → (n ≡ 1 → ⊥) → Put out₀ at (one_left k first second s frames t₀ from) out
     unfolding in_turn
     single-even h g =
         let e : n ≡ 0 = omega arith in
         filled_put (rw e at w.filled) w.start
-
-    pub single-long : length out ≡ length out₀
-    single-long = w.filled.long
-
-pub ruleset single = (high_fits, high-below, single-begins, single-byte, single-second, single-turn, single-last, single-odd, single-even, single-long)
 
 -- ---- two channels: n frames are left, from code j of ls and of rs on
 abbrev pub both_left : {S : Type 0} → Codec S → List ℕ → List ℕ → ℕ → S → S → ℕ → List ℤ

@@ -1,7 +1,6 @@
 -- Every code has four letters, they are bytes, and the last of them is not zero: one test, computed code by code. Assumes nothing.
-use mathlib.Core.Path.{◌≡◌, sym, ap, ◌∙◌}
-use mathlib.Core.List.{List}
-use Prim.Native.Nat.{ℕ, ◌≤◌}
+use mathlib.Core.Path.{◌≡◌}
+use Prim.Native.Nat.{◌≤◌}
 use lib.Dec.{T, eqb, leb, eqb→eq, leb→le}
 use lib.ListN.{length, get_or}
 use lib.Pow.{are_bytes}
@@ -33,7 +32,3 @@ module _ (c : Code) where
 
   pub last_letter : 1 ≤ get_or (code_bytes c) 3 0
   last_letter = leb→le 1 (get_or (code_bytes c) 3 0) (tested c).2
-
--- in the words of the code: the letters of a code that is told to be d are those of d
-pub told-letters : (c d : Code) {four : List ℕ} → c ≡ d → four ≡ code_bytes d → four ≡ code_bytes c
-told-letters c d e f = f ∙ sym (ap code_bytes e)

@@ -9,13 +9,14 @@ use native.Mathlib.Omega.{arith}
 use lib.Dec.{eqb, leb}
 use lib.ListN.{length, take, drop, get_or}
 use lib.Seq.{take_at, take_all, drop-drop}
-use mir.Syntax.{w8}
+use native.Mathlib.Nat.{zero-add}
+use Rattle.std.specs.Int.{from_le_bytes}
+use mir.Syntax.{w8, w32}
 use mir.Val.{Fits}
 use borrow.Author.Tests.{leb-true, leb-false, eqb-true, eqb-false}
 use Rattle.little.specs.Numbers.{number_in, number_at, bytes_of}
 use Rattle.little.specs.Same.{same_bytes}
-use Rattle.little.specs.Writing.{Put}
-use Rattle.little.proofs.Reading.{four_bytes, byte_past, said-bytes, bytes-at}
+use Rattle.little.proofs.Reading.{four_bytes, four_say, byte_past, said-bytes, bytes-at}
 use Rattle.little.proofs.Comparing.{same-itself, same-says, same_not}
 use Rattle.codes.specs.declared.Code.{Code}
 use Rattle.codes.specs.Codes.{code_bytes, is_at}
@@ -85,10 +86,11 @@ module _ (s : List ℕ) (at : ℕ) (c : Code) (b : (k : ℕ) → Fits w8 (get_or
       by false h =
           sym (same_not (take 4 (drop at s)) (code_bytes c) (λ e. eqb-false (number_at 4 s at) (number_in (code_bytes c)) h (ap number_in e)))
 
-  -- in the words of the code
-  pub is-at : {x y : ℕ} {four : List ℕ} → x ≡ number_at 4 s at → four ≡ code_bytes c → y ≡ number_in four → eqb x y ≡ is_at s at c
-  is-at e f g = (λ i. eqb (e i) ((g ∙ ap number_in f) i)) ∙ sym by-numbers
-
-pub put-code : {d e : List ℕ} {at x : ℕ} {four : List ℕ} (c : Code)
-    → Put d at (bytes_of 4 x) e → four ≡ code_bytes c → x ≡ number_in four → Put d at (code_bytes c) e
-put-code {d} {e} {at} c p f g = subst (λ (l : List ℕ). Put d at l e) (ap (bytes_of 4) (g ∙ ap number_in f) ∙ word_back c) p
+  -- in the words of the code, whose four letters are read as a number by the library
+  pub is_at_by_number : {x : ℕ} {four : List ℕ} → x ≡ number_at 4 s at → four ≡ code_bytes c → eqb x (from_le_bytes w32 four) ≡ is_at s at c
+  is_at_by_number {four = four} e f =
+      let n : from_le_bytes w32 four ≡ number_in (code_bytes c) =
+      four_say four four 0 (λ k h. ap (λ (i : ℕ). get_or four i 0) (sym (zero-add k)))
+      ∙ ap (λ (l : List ℕ). number_at 4 l 0) f
+      ∙ word_of (code_bytes c) (length-code c) refl in
+      (λ i. eqb (e i) (n i)) ∙ sym by-numbers

@@ -3,7 +3,6 @@
 #![tactic(auto)]
 
 ghost use Rattle.std.specs.Prelude.{◌≡◌, ◌+◌, ◌≤◌, length};
-ghost use Rattle.little.specs.Numbers.{number_in};
 ghost use Rattle.little.specs.Writing.{Put};
 ghost use Rattle.codes.specs.Codes.{code_bytes, is_at};
 
@@ -25,6 +24,7 @@ pub enum Code {
 }
 
 // The four letters of a code, as the papers print them.
+#[tactic(auto, unfolding(crate::specs::Codes::code_bytes))]
 fn letters(code: Code) -> [u8; 4]
     ensures answer { result ≡ code_bytes code }
 {
@@ -44,18 +44,12 @@ fn letters(code: Code) -> [u8; 4]
     }
 }
 
-// Four letters as one word, which a machine compares and stores at once.
-fn word(four: [u8; 4]) -> u32
-    ensures answer { result ≡ number_in four }
-{
-    little::u32_at(&four, 0)
-}
-
-// Whether a code stands at a place; past the end none does.
+// Whether a code stands at a place; past the end none does. Four letters are compared as one number.
+#[tactic(auto, using(crate::proofs::Laws::is_at_by_number))]
 pub fn is_at(bytes: &[u8], at: usize, code: Code) -> bool
     ensures answer { result ≡ is_at bytes.now at code }
 {
-    little::u32_or_zero(bytes, at) == word(letters(code))
+    little::u32_or_zero(bytes, at) == u32::from_le_bytes(letters(code))
 }
 
 // Puts a code at a place.
@@ -63,5 +57,5 @@ pub fn put(out: &mut [u8], at: usize, code: Code)
     requires { at + 4 ≤ length out.old }
     ensures buffer { Put out.old at (code_bytes code) out.new }
 {
-    little::put_u32(out, at, word(letters(code)));
+    little::put_bytes(out, at, &letters(code));
 }

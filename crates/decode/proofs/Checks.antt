@@ -18,8 +18,8 @@ use Rattle.units.specs.Checks.{decided}
 use Rattle.formats.specs.declared.Format.{Format}
 use Rattle.formats.specs.Frames.{needs_fact}
 use Rattle.sound_data.specs.Sound.{block_frames, block_valid, block_count, block_at, has_block, block_sound, data_valid}
-use Rattle.decode.specs.declared.Decoded.TheVariants.{Frames, Refused}
 use Rattle.decode.specs.Decoding.{whole_verdict, block_verdict, decoded_by}
+use Rattle.std.specs.Prelude.{Err, Ok}
 
 -- frames of all channels are counted in 64 bits
 product : {a b : ℕ} → a ≤ 4294967296 → b ≤ 65536 → a * b ≤ 4294967296 * 65536
@@ -36,16 +36,16 @@ block-fits f g = room_fits (omega (arith, f.fits)) (le_of_lt g.fits)
 
 -- ---- 14, then 15 for any block
 module _ (f : Format) (n : ℕ) (w : List ℕ) (room : ℕ) where
-  pub whole-small : room < n * f.channels → Refused OutputTooSmall ≡ decoded_by (whole_verdict f n w room) n
+  pub whole-small : room < n * f.channels → Err OutputTooSmall ≡ decoded_by (whole_verdict f n w room) n
   unfolding whole_verdict decided
   whole-small h = simp tests
 
   module _ (h : n * f.channels ≤ room) {valid : Bool} (e : valid ≡ data_valid f w) where
-    pub whole-wrong : not valid ≡ true → Refused BlockHeaderWrong ≡ decoded_by (whole_verdict f n w room) n
+    pub whole-wrong : not valid ≡ true → Err BlockHeaderWrong ≡ decoded_by (whole_verdict f n w room) n
     unfolding whole_verdict decided
     whole-wrong t = let u : data_valid f w ≡ false = sym e ∙ not-true valid t in simp (tests, u)
 
-    pub whole-valid : not valid ≡ false → Frames (record { 0 = n }) ≡ decoded_by (whole_verdict f n w room) n
+    pub whole-valid : not valid ≡ false → Ok (record { 0 = n }) ≡ decoded_by (whole_verdict f n w room) n
     unfolding whole_verdict decided
     whole-valid t = let u : data_valid f w ≡ true = sym e ∙ not-false valid t in simp (tests, u)
 
@@ -69,7 +69,7 @@ pub ruleset counted = (block_none, block-counted)
 
 -- ---- 20, then 14, then 15
 module _ (f : Format) (w : List ℕ) (k room : ℕ) {there : Bool} (e : there ≡ has_block f w k) where
-  pub part_none : not there ≡ true → Refused NoSuchBlock ≡ decoded_by (block_verdict f w k room) f.samples
+  pub part_none : not there ≡ true → Err NoSuchBlock ≡ decoded_by (block_verdict f w k room) f.samples
   unfolding block_verdict decided
   part_none t = let u : has_block f w k ≡ false = sym e ∙ not-true there t in simp u
 
@@ -77,7 +77,7 @@ module _ (f : Format) (w : List ℕ) (k room : ℕ) {there : Bool} (e : there �
     is-there : has_block f w k ≡ true
     is-there = sym e ∙ not-false there t
 
-    pub part_small : room < f.samples * f.channels → Refused OutputTooSmall ≡ decoded_by (block_verdict f w k room) f.samples
+    pub part_small : room < f.samples * f.channels → Err OutputTooSmall ≡ decoded_by (block_verdict f w k room) f.samples
     unfolding block_verdict decided
     part_small h = simp (tests, is-there)
 
@@ -85,11 +85,11 @@ module _ (f : Format) (w : List ℕ) (k room : ℕ) {there : Bool} (e : there �
       fine-is : {v : Bool} → valid ≡ v → block_valid f (block_at f w k) ≡ v
       fine-is u = ap (block_valid f) (sym g) ∙ sym i ∙ u
 
-      pub part-wrong : not valid ≡ true → Refused BlockHeaderWrong ≡ decoded_by (block_verdict f w k room) f.samples
+      pub part-wrong : not valid ≡ true → Err BlockHeaderWrong ≡ decoded_by (block_verdict f w k room) f.samples
       unfolding block_verdict decided
       part-wrong u = let v = fine-is (not-true valid u) in simp (tests, is-there, v)
 
-      pub part-valid : not valid ≡ false → Frames (record { 0 = f.samples }) ≡ decoded_by (block_verdict f w k room) f.samples
+      pub part-valid : not valid ≡ false → Ok (record { 0 = f.samples }) ≡ decoded_by (block_verdict f w k room) f.samples
       unfolding block_verdict decided
       part-valid u = let v = fine-is (not-false valid u) in simp (tests, is-there, v)
 

@@ -8,9 +8,7 @@ use native.Mathlib.Omega.{arith}
 use lib.Dec.{leb, eqb}
 use lib.ListN.{length, take, drop}
 use Rattle.units.specs.declared.Frames as units
-use Rattle.units.specs.declared.Verdict.{Verdict}
-use Rattle.units.specs.declared.Verdict.TheVariants as verdict
-use Rattle.units.specs.Refusals.{verdict_number}
+use Rattle.units.specs.Refusals.{verdict_number, Verdict}
 use Rattle.units.specs.Checks.{number_by, number_or, AllMet}
 use Rattle.units.proofs.Checks.{all-met, number-row}
 use borrow.Author.Tests.{leb-true}
@@ -19,29 +17,29 @@ use Rattle.formats.specs.declared.Format.{Format}
 use Rattle.formats.specs.Frames.{needs_fact, blocks_in, Sounding}
 use Rattle.lists.proofs.Laws.{by_eqb}
 use Rattle.formats.proofs.Taken.{frames-begun, wanted-tag}
-use Rattle.rules.specs.Rules.{blank}
+use Rattle.rules.specs.Rules.{blank, record_in, reading_verdict}
 use Rattle.reader.specs.Content.{Content, refused, holds, content_of, reading_of, sound_of, reading, sound_in}
 use Rattle.reader.proofs.Kept.{content-kept}
 use Rattle.sound_data.specs.Sound.{block_valid, block_count, block_at, has_block, whole_sound, data_valid}
 use Rattle.sound_data.proofs.Pcm.{eight-whole, sixteen-whole}
 use Rattle.sound_data.proofs.Whole.{whole_long, block-long, block-of-whole}
-use Rattle.decode.specs.declared.Decoded.TheVariants.{Frames}
 use Rattle.decode.specs.Decoding.{whole_checks, whole_verdict, block_checks, block_verdict, decoded_by, whole_answer, block_answer, decoding, block_decoding, content_sound, content_block, file_sound, file_block, decoded_frames, decoded_number}
 use Rattle.decode.specs.Demands.{Told, WholeTold, BlockTold, OneOfAll, PcmSound, DecodeNumbered, BlockNumbered}
 use Rattle.decode.proofs.Checks.{part-counted, part-adpcm}
+use Rattle.std.specs.Prelude.{Err, Ok}
 
 -- ---- an answer that is frames
-frames-are : (v : Verdict) (k : ℕ) (n : units.Frames) → decoded_by v k ≡ Frames n
-    → (v ≡ verdict.Accepted) × (decoded_frames (decoded_by v k) ≡ k)
-frames-are verdict.Accepted k n e = (refl, refl)
-frames-are (verdict.Refused r) k n e = let z : ◌≡◌ {A = ℕ} 0 1 = cc in absurd (omega arith)
+frames-are : (v : Verdict) (k : ℕ) (n : units.Frames) → decoded_by v k ≡ Ok n
+    → (v ≡ Ok tt) × (decoded_frames (decoded_by v k) ≡ k)
+frames-are (Ok _) k n e = (refl, refl)
+frames-are (Err r) k n e = let z : ◌≡◌ {A = ℕ} 0 1 = cc in absurd (omega arith)
 
 -- ---- a verdict that is taken: there is room, and there is such a block
-room-is : (f : Format) (n : ℕ) (w : List ℕ) (room : ℕ) → whole_verdict f n w room ≡ verdict.Accepted → n * f.channels ≤ room
+room-is : (f : Format) (n : ℕ) (w : List ℕ) (room : ℕ) → whole_verdict f n w room ≡ Ok tt → n * f.channels ≤ room
 unfolding whole_verdict AllMet
 room-is f n w room e = leb-true (n * f.channels) room (all-met (whole_checks f n w room) e).0
 
-module _ (f : Format) (w : List ℕ) (k room : ℕ) (e : block_verdict f w k room ≡ verdict.Accepted) where
+module _ (f : Format) (w : List ℕ) (k room : ℕ) (e : block_verdict f w k room ≡ Ok tt) where
   met : (has_block f w k ≡ true) × (leb (f.samples * f.channels) room ≡ true)
   unfolding block_verdict AllMet
   met = let p = all-met (block_checks f w k room) e in (p.0, p.1.0)
@@ -54,8 +52,8 @@ pub whole-told : WholeTold
 unfolding WholeTold decoding file_sound reading
 whole-told s room n = by (content_of s) refl
   where
-    by : (c : Content) → c ≡ content_of s → whole_answer c room ≡ Frames n
-        → Told (whole_answer c room) (content_sound c) (reading_of c).made.frames.0 (reading_of c).made.format.channels room
+    by : (c : Content) → c ≡ content_of s → whole_answer c room ≡ Ok n
+        → Told (whole_answer c room) (content_sound c) (record_in (reading_of c)).frames.0 (record_in (reading_of c)).format.channels room
     by (refused r) e h = let z : ◌≡◌ {A = ℕ} 0 1 = cc in absurd (omega arith)
     by (holds m w) e h =
         let v : Verdict = whole_verdict m.format m.frames.0 w room in
@@ -67,8 +65,8 @@ pub block-told : BlockTold
 unfolding BlockTold block_decoding file_block reading
 block-told s k room n = by (content_of s) refl
   where
-    by : (c : Content) → c ≡ content_of s → block_answer c k room ≡ Frames n
-        → Told (block_answer c k room) (content_block c k) (reading_of c).made.format.samples (reading_of c).made.format.channels room
+    by : (c : Content) → c ≡ content_of s → block_answer c k room ≡ Ok n
+        → Told (block_answer c k room) (content_block c k) (record_in (reading_of c)).format.samples (record_in (reading_of c)).format.channels room
     by (refused r) e h = let z : ◌≡◌ {A = ℕ} 0 1 = cc in absurd (omega arith)
     by (holds m w) e h =
         let f : Format = m.format in
@@ -99,11 +97,11 @@ pub one_of_all : OneOfAll
 unfolding OneOfAll file_sound file_block reading sound_in
 one_of_all s k h = let p = by (content_of s) refl h in record { begun = p.0; same = p.1 }
   where
-    by : (c : Content) → c ≡ content_of s → has_block (reading_of c).made.format (sound_of c) k ≡ true
-        → (k * (reading_of c).made.format.samples < (reading_of c).made.frames.0)
-        × (take ((reading_of c).made.format.samples * (reading_of c).made.format.channels)
-        (drop (k * ((reading_of c).made.format.samples * (reading_of c).made.format.channels)) (content_sound c))
-        ≡ take (((reading_of c).made.frames.0 - k * (reading_of c).made.format.samples) * (reading_of c).made.format.channels) (content_block c k))
+    by : (c : Content) → c ≡ content_of s → has_block (record_in (reading_of c)).format (sound_of c) k ≡ true
+        → (k * (record_in (reading_of c)).format.samples < (record_in (reading_of c)).frames.0)
+        × (take ((record_in (reading_of c)).format.samples * (record_in (reading_of c)).format.channels)
+        (drop (k * ((record_in (reading_of c)).format.samples * (record_in (reading_of c)).format.channels)) (content_sound c))
+        ≡ take (((record_in (reading_of c)).frames.0 - k * (record_in (reading_of c)).format.samples) * (record_in (reading_of c)).format.channels) (content_block c k))
     by (refused r) e h = absurd (none k h)
     by (holds m w) e h =
         let q = content-kept s e in
@@ -116,8 +114,8 @@ pub pcm-sound : PcmSound
 unfolding PcmSound file_sound reading sound_in
 pcm-sound s h = by (content_of s) refl h
   where
-    by : (c : Content) → c ≡ content_of s → needs_fact (reading_of c).made.format ≡ false
-        → content_sound c ≡ cond (eqb (reading_of c).made.format.bits 8) (map eight (sound_of c)) (samples_in (sound_of c))
+    by : (c : Content) → c ≡ content_of s → needs_fact (record_in (reading_of c)).format ≡ false
+        → content_sound c ≡ cond (eqb (record_in (reading_of c)).format.bits 8) (map eight (sound_of c)) (samples_in (sound_of c))
     by (refused r) e h = absurd (some-fact h)
     by (holds m w) e h =
         let q = content-kept s e in
@@ -128,8 +126,8 @@ pcm-sound s h = by (content_of s) refl h
 
 -- ---- the numbers: each check is a row
 answer-number : (v : Verdict) (n : ℕ) → decoded_number (decoded_by v n) ≡ verdict_number v
-answer-number verdict.Accepted n = refl
-answer-number (verdict.Refused r) n = refl
+answer-number (Ok _) n = refl
+answer-number (Err r) n = refl
 
 pub numbered : DecodeNumbered
 unfolding DecodeNumbered decoding reading sound_in whole_verdict number_by
@@ -137,9 +135,9 @@ numbered s room = by (content_of s)
   where
     by : (c : Content)
         → decoded_number (whole_answer c room)
-        ≡ number_or (reading_of c).verdict
-        (cond (not (leb ((reading_of c).made.frames.0 * (reading_of c).made.format.channels) room)) 14
-        (cond (not (data_valid (reading_of c).made.format (sound_of c))) 15 0))
+        ≡ number_or (reading_verdict (reading_of c))
+        (cond (not (leb ((record_in (reading_of c)).frames.0 * (record_in (reading_of c)).format.channels) room)) 14
+        (cond (not (data_valid (record_in (reading_of c)).format (sound_of c))) 15 0))
     by (refused r) = refl
     by (holds m w) = answer-number (whole_verdict m.format m.frames.0 w room) m.frames.0 ∙ number-row (whole_checks m.format m.frames.0 w room)
 
@@ -149,9 +147,9 @@ block-numbered s k room = by (content_of s)
   where
     by : (c : Content)
         → decoded_number (block_answer c k room)
-        ≡ number_or (reading_of c).verdict
-        (cond (not (has_block (reading_of c).made.format (sound_of c) k)) 20
-        (cond (not (leb ((reading_of c).made.format.samples * (reading_of c).made.format.channels) room)) 14
-        (cond (not (block_valid (reading_of c).made.format (block_at (reading_of c).made.format (sound_of c) k))) 15 0)))
+        ≡ number_or (reading_verdict (reading_of c))
+        (cond (not (has_block (record_in (reading_of c)).format (sound_of c) k)) 20
+        (cond (not (leb ((record_in (reading_of c)).format.samples * (record_in (reading_of c)).format.channels) room)) 14
+        (cond (not (block_valid (record_in (reading_of c)).format (block_at (record_in (reading_of c)).format (sound_of c) k))) 15 0)))
     by (refused r) = refl
     by (holds m w) = answer-number (block_verdict m.format w k room) m.format.samples ∙ number-row (block_checks m.format w k room)

@@ -6,8 +6,7 @@ use lib.IntN.{ℤ}
 use lib.ListN.{length}
 use Rattle.little.specs.Writing.{holding}
 use Rattle.little.proofs.Promise.{one_each}
-use Rattle.decode.specs.declared.Decoded.{Decoded}
-use Rattle.decode.specs.Decoding.{decoding, block_decoding, file_sound, file_block, decoded_verdict, decoded_frames, decoded_number}
+use Rattle.decode.specs.Decoding.{decoding, block_decoding, file_sound, file_block, decoded_verdict, decoded_frames, decoded_number, Decoded}
 use Rattle.decode.specs.Demands.{WholeTold, BlockTold, DecodeNumbered, BlockNumbered}
 use Rattle.decode.specs.Promise.{DecodePromise, OneDecoding, BlockPromise, OneBlock}
 use Rattle.decode.proofs.Demands.{whole-told, block-told, numbered, block-numbered}

@@ -1,14 +1,17 @@
 -- Decoding a file, or one block of it: the checks, the answer and the sound. Assumes nothing.
-use Rattle.std.specs.Prelude.{ℕ, ◌*◌, List, [], ◌∷◌, leb, ℤ}
+use Rattle.std.specs.Prelude.{ℕ, ◌*◌, List, [], ◌∷◌, leb, ℤ, Result, Ok, Err}
+use Rattle.units.specs.declared.Frames.{Frames}
+use Rattle.units.specs.declared.Refusal.{Refusal}
 use Rattle.units.specs.declared.Refusal.TheVariants.{OutputTooSmall, BlockHeaderWrong, NoSuchBlock}
-use Rattle.units.specs.declared.Verdict.{Verdict}
-use Rattle.units.specs.Refusals.{verdict_number}
+use Rattle.units.specs.Refusals.{verdict_number, Verdict}
 use Rattle.units.specs.Checks.{Check, check, decided}
 use Rattle.formats.specs.declared.Format.{Format}
 use Rattle.reader.specs.Content.{Content, refused, holds, content_of}
 use Rattle.sound_data.specs.Sound.{block_valid, block_at, has_block, block_sound, whole_sound, data_valid}
-use Rattle.decode.specs.declared.Decoded.{Decoded}
-use Rattle.decode.specs.declared.Decoded.TheVariants.{Frames, Refused}
+
+-- what decoding answers: how many frames were put out, or the refusal
+abbrev pub Decoded : Type 0
+Decoded = Result Frames Refusal
 
 -- ---- the checks, on sound data w of a format
 
@@ -37,16 +40,16 @@ block_verdict f w k room = decided (block_checks f w k room)
 
 -- frames that were put out, or the refusal
 abbrev pub decoded_by : Verdict → ℕ → Decoded
-decoded_by Verdict.Accepted n = Frames (record { 0 = n })
-decoded_by (Verdict.Refused r) n = Refused r
+decoded_by (Ok _) n = Ok (record { 0 = n })
+decoded_by (Err r) n = Err r
 
 -- the reader's refusals first
 abbrev pub whole_answer : Content → ℕ → Decoded
-whole_answer (refused r) room = Refused r
+whole_answer (refused r) room = Err r
 whole_answer (holds m w) room = decoded_by (whole_verdict m.format m.frames.0 w room) m.frames.0
 
 abbrev pub block_answer : Content → ℕ → ℕ → Decoded
-block_answer (refused r) k room = Refused r
+block_answer (refused r) k room = Err r
 block_answer (holds m w) k room = decoded_by (block_verdict m.format w k room) m.format.samples
 
 -- decoding a file s, or its block k, with room for so many samples
@@ -78,13 +81,13 @@ file_block s k = content_block (content_of s) k
 
 -- how many frames; a refusal tells none
 abbrev pub decoded_frames : Decoded → ℕ
-decoded_frames (Frames n) = n.0
-decoded_frames (Refused r) = 0
+decoded_frames (Ok n) = n.0
+decoded_frames (Err r) = 0
 
 -- the verdict, and its number: 0 where the sound is put out
 abbrev pub decoded_verdict : Decoded → Verdict
-decoded_verdict (Frames n) = Verdict.Accepted
-decoded_verdict (Refused r) = Verdict.Refused r
+decoded_verdict (Ok n) = Ok tt
+decoded_verdict (Err r) = Err r
 
 abbrev pub decoded_number : Decoded → ℕ
 decoded_number x = verdict_number (decoded_verdict x)

@@ -1,14 +1,13 @@
 -- What decoding promises besides its definition, each for every file. `proofs/Demands.antt` proves each. Assumes nothing.
-use Rattle.std.specs.Prelude.{ℕ, ◌-◌, ◌*◌, ◌≤◌, ◌<◌, ◌≡◌, true, false, not, cond, List, map, leb, eqb, ℤ, length, take, drop}
+use Rattle.std.specs.Prelude.{ℕ, ◌-◌, ◌*◌, ◌≤◌, ◌<◌, ◌≡◌, true, false, not, cond, List, map, leb, eqb, ℤ, length, take, drop, Ok}
 use Rattle.units.specs.declared.Frames as units
 use Rattle.units.specs.Checks.{number_or}
 use Rattle.formats.specs.Frames.{needs_fact}
 use Rattle.samples.specs.Sound.{samples_in, eight}
 use Rattle.reader.specs.Content.{reading, sound_in, file_format, file_frames}
 use Rattle.sound_data.specs.Sound.{block_valid, block_at, has_block, data_valid}
-use Rattle.decode.specs.declared.Decoded.{Decoded}
-use Rattle.decode.specs.declared.Decoded.TheVariants.{Frames}
-use Rattle.decode.specs.Decoding.{decoding, block_decoding, file_sound, file_block, decoded_frames, decoded_number}
+use Rattle.decode.specs.Decoding.{decoding, block_decoding, file_sound, file_block, decoded_frames, decoded_number, Decoded}
+use Rattle.rules.specs.Rules.{reading_verdict}
 
 abbrev pub channels_of : List ℕ → ℕ
 channels_of s = (file_format s).channels
@@ -24,12 +23,12 @@ pub record Told (answer : Decoded) (sound : List ℤ) (n c most : ℕ) : Type 0 
 
 unfoldable pub WholeTold : Type 0
 WholeTold =
-    (s : List ℕ) (room : ℕ) (n : units.Frames) → decoding s room ≡ Frames n
+    (s : List ℕ) (room : ℕ) (n : units.Frames) → decoding s room ≡ Ok n
     → Told (decoding s room) (file_sound s) (file_frames s) (channels_of s) room
 
 unfoldable pub BlockTold : Type 0
 BlockTold =
-    (s : List ℕ) (k room : ℕ) (n : units.Frames) → block_decoding s k room ≡ Frames n
+    (s : List ℕ) (k room : ℕ) (n : units.Frames) → block_decoding s k room ≡ Ok n
     → Told (block_decoding s k room) (file_block s k) (block_frames_of s) (channels_of s) room
 
 -- ---- block k of S frames is frames k x S up to (k + 1) x S of the whole of F, where the file has them: its first frame at least
@@ -53,7 +52,7 @@ PcmSound =
 -- the reader's, 14, then 15 for any block
 abbrev pub decode_number : List ℕ → ℕ → ℕ
 decode_number s room =
-    number_or (reading s).verdict
+    number_or (reading_verdict (reading s))
     (cond (not (leb (file_frames s * channels_of s) room)) 14
     (cond (not (data_valid (file_format s) (sound_in s))) 15 0))
 
@@ -63,7 +62,7 @@ DecodeNumbered = (s : List ℕ) (room : ℕ) → decoded_number (decoding s room
 -- the reader's, 20, 14, 15
 abbrev pub block_number : List ℕ → ℕ → ℕ → ℕ
 block_number s k room =
-    number_or (reading s).verdict
+    number_or (reading_verdict (reading s))
     (cond (not (has_block (file_format s) (sound_in s) k)) 20
     (cond (not (leb (block_frames_of s * channels_of s) room)) 14
     (cond (not (block_valid (file_format s) (block_at (file_format s) (sound_in s) k))) 15 0)))

@@ -11,8 +11,6 @@ use borrow.Author.Tests.{leb-true, eqb-true}
 use Rattle.little.specs.Writing.{front}
 use Rattle.lists.proofs.Turns.{joined-long}
 use Rattle.units.specs.declared.Refusal.{Refusal}
-use Rattle.units.specs.declared.Verdict.{Verdict}
-use Rattle.units.specs.declared.Verdict.TheVariants.{Accepted, Refused}
 use Rattle.units.specs.Checks.{AllMet}
 use Rattle.units.proofs.Checks.{all-met}
 use Rattle.encode.specs.declared.Coded.{Coded}
@@ -21,6 +19,8 @@ use Rattle.encode.specs.Answer.{coded_of, encoded_by, encoding}
 use Rattle.formats.proofs.Making.{Codable, codable-says}
 use Rattle.encode.proofs.Settling.{product-fits}
 use Rattle.encode.proofs.Loops.{length-mono, length-stereo}
+use Rattle.units.specs.Refusals.{Verdict}
+use Rattle.std.specs.Prelude.{Err, Ok}
 
 -- ---- what the verdict says where it is accepted
 pub record Settled (n c a room : ℕ) : Type 0 where
@@ -29,7 +29,7 @@ pub record Settled (n c a room : ℕ) : Type 0 where
   pub whole : n % c ≡ 0
   pub fits : blocks_for c a n * a ≤ room
 
-pub settled_says : (n c a room : ℕ) → encode_verdict n c a room ≡ Accepted → Settled n c a room
+pub settled_says : (n c a room : ℕ) → encode_verdict n c a room ≡ Ok tt → Settled n c a room
 unfolding encode_verdict AllMet
 settled_says n c a room e =
     let met = all-met (encode_checks n c a room) e in
@@ -40,7 +40,7 @@ settled_says n c a room e =
       fits = leb-true (blocks_for c a n * a) room met.1.1.1.0;
     }
 
-module _ (n c a room : ℕ) (e : encode_verdict n c a room ≡ Accepted) where
+module _ (n c a room : ℕ) (e : encode_verdict n c a room ≡ Ok tt) where
   said : Settled n c a room
   said = settled_says n c a room e
 
@@ -120,7 +120,7 @@ same-told : {b d l m r n : ℕ} → b ≡ d → l ≡ m → r ≡ n → told b l
 same-told {b} {d} {l} {m} {r} {n} e f g =
     ap (λ (k : ℕ). told k l r) e ∙ ap (λ (k : ℕ). told d k r) f ∙ ap (told d m) g
 
-module _ (c a room : ℕ) (s : List ℤ) (e : encode_verdict (length s) c a room ≡ Accepted) {b : ℕ}
+module _ (c a room : ℕ) (s : List ℤ) (e : encode_verdict (length s) c a room ≡ Ok tt) {b : ℕ}
     (g : b ≡ blocks_for c a (length s)) where
   pub mono-answer : {n : ℕ} → c ≡ 1 → n ≡ chased_count 1 a s 0 → told (b * a) n 0 ≡ coded_of c a s
   unfolding coded_of
@@ -154,15 +154,15 @@ pub ruleset writing = (said-some, said-room, said-most, said-small, said_fits, o
 
 -- ---- the answer
 module _ (c a room : ℕ) (s : List ℤ) {v : Verdict} (e : v ≡ encode_verdict (length s) c a room) where
-  pub asked : v ≡ Accepted → encode_verdict (length s) c a room ≡ Accepted
+  pub asked : v ≡ Ok tt → encode_verdict (length s) c a room ≡ Ok tt
   asked f = sym e ∙ f
 
-  pub answer-blocks : {w : Coded} → v ≡ Accepted → w ≡ coded_of c a s → encoded_by Accepted w ≡ encoding s c a room
+  pub answer-blocks : {w : Coded} → v ≡ Ok tt → w ≡ coded_of c a s → encoded_by (Ok tt) w ≡ encoding s c a room
   unfolding encoding
   answer-blocks {w} f g =
       ap (λ (x : Verdict). encoded_by x w) (sym f ∙ e) ∙ ap (encoded_by (encode_verdict (length s) c a room)) g
 
-  pub answer-refused : {r : Refusal} → v ≡ Refused r → encoded_by (Refused r) (coded_of c a s) ≡ encoding s c a room
+  pub answer-refused : {r : Refusal} → v ≡ Err r → encoded_by (Err r) (coded_of c a s) ≡ encoding s c a room
   unfolding encoding
   answer-refused f = ap (λ (x : Verdict). encoded_by x (coded_of c a s)) (sym f ∙ e)
 

@@ -22,22 +22,19 @@ use Rattle.formats.specs.Format.{ima_samples}
 use Rattle.codec.specs.Codec.{channel_states, channel_heard, frames_heard, headers_valid}
 use Rattle.ima_block.specs.Block.{channel_part, ima_opened, ima}
 use Rattle.ima_coder.specs.Part.{chased_part, count_of}
-use Rattle.units.specs.declared.Verdict.{Verdict}
-use Rattle.units.specs.declared.Verdict.TheVariants.{Accepted}
-use Rattle.units.specs.Refusals.{verdict_number}
+use Rattle.units.specs.Refusals.{verdict_number, Verdict}
 use Rattle.units.specs.Checks.{number_by}
 use Rattle.units.proofs.Checks.{number-row}
 use Rattle.encode.specs.declared.Coded.{Coded}
-use Rattle.encode.specs.declared.Encoded.{Encoded}
-use Rattle.encode.specs.declared.Encoded.TheVariants.{Blocks, Refused}
 use Rattle.encode.specs.Encoding.{block_of, open_index, channel_bytes, chased_block, blocks_for, encoded_bytes, chased_in, chased_count, encode_checks, encode_verdict}
-use Rattle.encode.specs.Answer.{coded_of, encoded_by, encoding, encoded_number}
+use Rattle.encode.specs.Answer.{coded_of, encoded_by, encoding, encoded_number, Encoded}
 use Rattle.encode.specs.Demands.{frame_of, block_of_bytes, heard_at, chased_at, chased_frames, Quality, tracked_part, tracked_at, Tracked, EncodeNumbered}
 use Rattle.formats.proofs.Making.{Codable}
 use Rattle.encode.proofs.Answers.{Settled, settled_says}
 use Rattle.encode.proofs.Blocks.{per-some, length-block, length_part}
 use Rattle.encode.proofs.Heard.{index_back, part-heard, per-is, part-back, block_back}
 use Rattle.encode.proofs.Frames.{block-sixteen, block-frame, open-below, calm-take, blocks-calm, same_block, one-before, blocks-enough, block-among}
+use Rattle.std.specs.Prelude.{Err, Ok}
 
 abbrev pub silent : ImaState
 silent = record { last = pos 0; index = 0 }
@@ -258,12 +255,12 @@ counted-left c a s w z r =
 
 -- ---- an answer that is blocks
 abbrev within-answer : Coded → Encoded → Coded
-within-answer d (Blocks w) = w
-within-answer d (Refused r) = d
+within-answer d (Ok w) = w
+within-answer d (Err r) = d
 
-pub accepted : (v : Verdict) {u w : Coded} → encoded_by v u ≡ Blocks w → (v ≡ Accepted) × (u ≡ w)
-accepted Accepted {u} e = (refl, ap (within-answer u) e)
-accepted (Verdict.Refused r) e = let z : ◌≡◌ {A = ℕ} 0 1 = cc in absurd (omega arith)
+pub accepted : (v : Verdict) {u w : Coded} → encoded_by v u ≡ Ok w → (v ≡ Ok tt) × (u ≡ w)
+accepted (Ok _) {u} e = (refl, ap (within-answer u) e)
+accepted (Err r) e = let z : ◌≡◌ {A = ℕ} 0 1 = cc in absurd (omega arith)
 
 -- the whole of demand 3
 pub quality : Quality
@@ -292,8 +289,8 @@ tracked-back s c a room w z e ch f l h =
 
 -- ---- the number of an answer: each check is a row
 answer-number : (v : Verdict) (u : Coded) → encoded_number (encoded_by v u) ≡ verdict_number v
-answer-number Accepted u = refl
-answer-number (Verdict.Refused r) u = refl
+answer-number (Ok _) u = refl
+answer-number (Err r) u = refl
 
 pub numbered : EncodeNumbered
 unfolding EncodeNumbered encoding encode_verdict number_by

@@ -74,10 +74,11 @@ pub record Mono (s : List ℤ) (a n : ℕ) (out₀ : List ℕ) (groups : ℕ) (t
 
 pub mono-begins : {s : List ℤ} {a n : ℕ} {out : List ℕ} {t : Channel} → a % 4 ≡ 0 → 8 ≤ a → a ≤ 4096
     → length s ≤ 536870912 → n ≡ blocks_for 1 a (length s)
-    → n * a ≤ length out → t.state.index ≡ 0 → t.chased ≡ 0 → Mono s a n out (a / 4 - 1) t 0 0 0 out
+    → n * a ≤ length out → t.state.index ≡ 0 → t.chased ≡ 0 → {to : ℕ} → to ≡ 0 → Mono s a n out (a / 4 - 1) t 0 to 0 out
 unfolding encoded_bytes
-mono-begins {s} {a} {n} {out} {t} w l m k b r e f =
-    record {
+mono-begins {s} {a} {n} {out} {t} w l m k b r e f j =
+    rw j
+    (record {
       valid = record { some = omega arith; two = omega arith; whole = w; least = l; most = m };
       small = k;
       blocks = b;
@@ -88,7 +89,7 @@ mono-begins {s} {a} {n} {out} {t} w l m k b r e f =
       bytes = sym (zero-mul a);
       sofar = sofar-begins 1 a s 0 t e f;
       filled = rw (sub-zero n, b) (filled_none (omega arith));
-    }
+    })
 
 module _ {s : List ℤ} {a n : ℕ} {out₀ : List ℕ} {groups : ℕ} {t : Channel} {frame to i : ℕ} {out : List ℕ}
     (w : Mono s a n out₀ groups t frame to i out) where
@@ -142,15 +143,16 @@ module _ {s : List ℤ} {a n : ℕ} {out₀ : List ℕ} {groups : ℕ} {t : Chan
         → (r ≡ channel_after_block t (length s - frame) (samples_from s 1 (length s - 1) frame (8 * groups + 1)))
         × (r.state.index < 89) × (r.chased ≤ t.chased + 8 * groups)
         × Put out to (coded_part t.state.index (samples_from s 1 (length s - 1) frame (8 * groups + 1))) f
-        → Mono s a n out₀ groups r (frame + (8 * groups + 1)) (to + a) (i + 1) f
-    mono-next {r} {f} (e, g, c, p) =
+        → {j : ℕ} → j ≡ to + a → Mono s a n out₀ groups r (frame + (8 * groups + 1)) j (i + 1) f
+    mono-next {r} {f} (e, g, c, p) o =
         let p' : Put out to (block_bytes 1 a s i) f = subst (λ (l : List ℕ). Put out to l f) part-is p in
         let l : length (block_bytes 1 a s i) ≡ a = length-mono a s i w.valid in
         let k : length s - frame ≡ length s / 1 - i * ima_samples 1 a = omega (arith, w.frames) in
         let e' : r ≡ channel_after_block t (length s / 1 - i * ima_samples 1 a) (block_of 1 a s 0 i) =
         e ∙ ap (λ (m : ℕ). channel_after_block t m (samples_from s 1 (length s - 1) frame (8 * groups + 1))) k
         ∙ ap (channel_after_block t (length s / 1 - i * ima_samples 1 a)) block-is in
-        record {
+        rw o
+        (record {
           valid = w.valid;
           small = w.small;
           blocks = w.blocks;
@@ -161,7 +163,7 @@ module _ {s : List ℤ} {a n : ℕ} {out₀ : List ℕ} {groups : ℕ} {t : Chan
           bytes = omega (arith, w.bytes, next-times i a);
           sofar = sofar-next w.sofar among e' g (omega (arith, per));
           filled = filled-piece w.filled p' (joined-next (block_bytes 1 a s) i n h) (omega arith) mono-next-room;
-        }
+        })
 
   module _ (h : n ≤ i) where
     none : blocks_for 1 a (length s) - i ≡ 0
@@ -199,10 +201,11 @@ pub stereo-begins : {s : List ℤ} {a n : ℕ} {out : List ℕ} {t : Channels} �
     → length s ≤ 536870912 → n ≡ blocks_for 2 a (length s)
     → n * a ≤ length out → t.left.state.index ≡ 0 → t.left.chased ≡ 0 → t.right.state.index ≡ 0
     → t.right.chased ≡ 0
-    → Stereo s a n out (a / 8 - 1) t 0 0 0 out
+    → {to : ℕ} → to ≡ 0 → Stereo s a n out (a / 8 - 1) t 0 to 0 out
 unfolding encoded_bytes
-stereo-begins {s} {a} {n} {out} {t} w l m k b r e f g h =
-    record {
+stereo-begins {s} {a} {n} {out} {t} w l m k b r e f g h j =
+    rw j
+    (record {
       valid = record { some = omega arith; two = omega arith; whole = w; least = l; most = m };
       small = k;
       blocks = b;
@@ -214,7 +217,7 @@ stereo-begins {s} {a} {n} {out} {t} w l m k b r e f g h =
       left-sofar = sofar-begins 2 a s 0 t.left e f;
       right-sofar = sofar-begins 2 a s 1 t.right g h;
       filled = rw (sub-zero n, b) (filled_none (omega arith));
-    }
+    })
 
 module _ {s : List ℤ} {a n : ℕ} {out₀ : List ℕ} {groups : ℕ} {t : Channels} {at to i : ℕ} {out : List ℕ}
     (w : Stereo s a n out₀ groups t at to i out) where
@@ -293,8 +296,8 @@ module _ {s : List ℤ} {a n : ℕ} {out₀ : List ℕ} {groups : ℕ} {t : Chan
         (in_turn 4 (groups + 1)
         (coded_part t.left.state.index (samples_from s 2 (length s - 2) at (8 * groups + 1))
         ∷ coded_part t.right.state.index (samples_from s 2 (length s - 1) (at + 1) (8 * groups + 1)) ∷ [])) f
-        → Stereo s a n out₀ groups r (at + (16 * groups + 2)) (to + a) (i + 1) f
-    stereo-next {r} {f} (el, er, gl, gr, cl, cr, p) =
+        → {j : ℕ} → j ≡ to + a → Stereo s a n out₀ groups r (at + (16 * groups + 2)) j (i + 1) f
+    stereo-next {r} {f} (el, er, gl, gr, cl, cr, p) o =
         let p' : Put out to (block_bytes 2 a s i) f = subst (λ (l : List ℕ). Put out to l f) parts_are p in
         let l : length (block_bytes 2 a s i) ≡ a = length-stereo a s i w.valid in
         let k : (length s - at) / 2 ≡ length s / 2 - i * ima_samples 2 a = omega (arith, w.frames) in
@@ -306,7 +309,8 @@ module _ {s : List ℤ} {a n : ℕ} {out₀ : List ℕ} {groups : ℕ} {t : Chan
         (block_of 2 a s 1 i) =
         er ∙ ap (λ (m : ℕ). channel_after_block t.right m (samples_from s 2 (length s - 1) (at + 1) (8 * groups + 1))) k
         ∙ ap (channel_after_block t.right (length s / 2 - i * ima_samples 2 a)) right_is in
-        record {
+        rw o
+        (record {
           valid = w.valid;
           small = w.small;
           blocks = w.blocks;
@@ -318,7 +322,7 @@ module _ {s : List ℤ} {a n : ℕ} {out₀ : List ℕ} {groups : ℕ} {t : Chan
           left-sofar = sofar-next w.left-sofar two-among el' gl (omega (arith, two-per));
           right-sofar = sofar-next w.right-sofar two-among er' gr (omega (arith, two-per));
           filled = filled-piece w.filled p' (joined-next (block_bytes 2 a s) i n h) (omega arith) stereo-next-room;
-        }
+        })
 
   module _ (h : n ≤ i) where
     two_none : blocks_for 2 a (length s) - i ≡ 0

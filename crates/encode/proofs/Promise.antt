@@ -6,9 +6,8 @@ use lib.IntN.{ℤ}
 use lib.ListN.{length}
 use Rattle.little.specs.Writing.{holding}
 use Rattle.little.proofs.Promise.{one_each}
-use Rattle.encode.specs.declared.Encoded.{Encoded}
 use Rattle.encode.specs.Encoding.{encoded_bytes, encode_verdict}
-use Rattle.encode.specs.Answer.{encoding, encoded_verdict, encoded_number}
+use Rattle.encode.specs.Answer.{encoding, encoded_verdict, encoded_number, Encoded}
 use Rattle.encode.specs.Demands.{EncodeNumbered}
 use Rattle.encode.specs.Promise.{EncodePromise, OneEncoding}
 use Rattle.encode.proofs.Demands.{accepted, numbered}

@@ -1,11 +1,13 @@
 -- The answer of encoding, and its verdict. Assumes nothing.
-use Rattle.std.specs.Prelude.{ℕ, List, ℤ, length}
-use Rattle.units.specs.declared.Verdict.{Verdict}
-use Rattle.units.specs.Refusals.{verdict_number}
+use Rattle.std.specs.Prelude.{ℕ, List, ℤ, length, Result, Ok, Err}
+use Rattle.units.specs.Refusals.{verdict_number, Verdict}
 use Rattle.encode.specs.declared.Coded.{Coded}
-use Rattle.encode.specs.declared.Encoded.{Encoded}
-use Rattle.encode.specs.declared.Encoded.TheVariants.{Blocks, Refused}
+use Rattle.units.specs.declared.Refusal.{Refusal}
 use Rattle.encode.specs.Encoding.{encoded_bytes, chased_count, encode_verdict}
+
+-- what encoding answers: the blocks, or the refusal
+abbrev pub Encoded : Type 0
+Encoded = Result Coded Refusal
 
 -- what was written: the number of bytes, and the chased samples of left and right
 unfoldable pub coded_of : ℕ → ℕ → List ℤ → Coded
@@ -18,8 +20,8 @@ coded_of c a s =
 
 -- the answer that a verdict gives
 abbrev pub encoded_by : Verdict → Coded → Encoded
-encoded_by Verdict.Accepted w = Blocks w
-encoded_by (Verdict.Refused r) w = Refused r
+encoded_by (Ok _) w = Ok w
+encoded_by (Err r) w = Err r
 
 -- the answer of encoding s, with room for so many bytes
 unfoldable pub encoding : List ℤ → ℕ → ℕ → ℕ → Encoded
@@ -27,8 +29,8 @@ encoding s c a room = encoded_by (encode_verdict (length s) c a room) (coded_of 
 
 -- the verdict that an answer tells, and its number: 0 where the blocks are written
 abbrev pub encoded_verdict : Encoded → Verdict
-encoded_verdict (Blocks w) = Verdict.Accepted
-encoded_verdict (Refused r) = Verdict.Refused r
+encoded_verdict (Ok w) = Ok tt
+encoded_verdict (Err r) = Err r
 
 abbrev pub encoded_number : Encoded → ℕ
 encoded_number x = verdict_number (encoded_verdict x)

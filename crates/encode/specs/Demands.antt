@@ -1,5 +1,5 @@
 -- Demand 3, for whole sounds: what is heard when the blocks that encoding wrote are decoded. Assumes nothing.
-use Rattle.std.specs.Prelude.{ℕ, ◌+◌, ◌-◌, ◌*◌, ◌/◌, ◌%◌, ◌<◌, ◌≡◌, Bool, true, false, not, cond, ◌&&◌, List, [], ◌∷◌, ◌++◌, leb, ltb, eqb, ℤ, pos, negsuc, nat_abs, ◌-ℤ◌, length, take, drop, get_or, replicate}
+use Rattle.std.specs.Prelude.{ℕ, ◌+◌, ◌-◌, ◌*◌, ◌/◌, ◌%◌, ◌<◌, ◌≡◌, Bool, true, false, not, cond, ◌&&◌, List, [], ◌∷◌, ◌++◌, leb, ltb, eqb, ℤ, pos, negsuc, nat_abs, ◌-ℤ◌, length, take, drop, get_or, replicate, Ok}
 use Rattle.lists.specs.Turns.{values}
 use Rattle.ima_code.specs.declared.ImaState.{ImaState}
 use Rattle.ima_code.specs.Code.{step_at, is_chased}
@@ -11,7 +11,6 @@ use Rattle.ima_block.specs.Block.{ima}
 use Rattle.ima_coder.specs.Part.{count_of}
 use Rattle.units.specs.Refusals.{verdict_number}
 use Rattle.encode.specs.declared.Coded.{Coded}
-use Rattle.encode.specs.declared.Encoded.TheVariants.{Blocks}
 use Rattle.encode.specs.Encoding.{block_of, open_index, blocks_for, encoded_bytes, encode_verdict}
 use Rattle.encode.specs.Answer.{encoding, encoded_number}
 
@@ -62,7 +61,7 @@ pub record Heard (s : List ℤ) (c a : ℕ) (bytes : List ℕ) (left right : ℕ
 -- so it is for every sound of 16-bit samples, channels and align that encoding accepts
 unfoldable pub Quality : Type 0
 Quality =
-    (s : List ℤ) (c a room : ℕ) (w : Coded) → Sixteen s → encoding s c a room ≡ Blocks w
+    (s : List ℤ) (c a room : ℕ) (w : Coded) → Sixteen s → encoding s c a room ≡ Ok w
     → Heard s c a (encoded_bytes c a s) w.left.0 w.right.0
 
 -- ---- decoding gives exactly what encoding tracked
@@ -81,13 +80,13 @@ tracked_at c a s ch f =
 
 unfoldable pub Tracked : Type 0
 Tracked =
-    (s : List ℤ) (c a room : ℕ) (w : Coded) → Sixteen s → encoding s c a room ≡ Blocks w
+    (s : List ℤ) (c a room : ℕ) (w : Coded) → Sixteen s → encoding s c a room ≡ Ok w
     → (ch f : ℕ) → ch < c → f < length s / c → heard_at c a (encoded_bytes c a s) ch f ≡ tracked_at c a s ch f
 
 -- ---- the first block has index 0 in each channel; where a later one opens, the index is that after the frame before
 unfoldable pub Carried : Type 0
 Carried =
-    (s : List ℤ) (c a room : ℕ) (w : Coded) → Sixteen s → encoding s c a room ≡ Blocks w
+    (s : List ℤ) (c a room : ℕ) (w : Coded) → Sixteen s → encoding s c a room ≡ Ok w
     → (ch f : ℕ) → ch < c → f < length s / c → f % ima_samples c a ≡ 0
     → (heard_at c a (encoded_bytes c a s) ch f).index ≡ cond (ltb 0 f) (heard_at c a (encoded_bytes c a s) ch (f - 1)).index 0
 

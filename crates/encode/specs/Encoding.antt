@@ -2,10 +2,10 @@
 use Rattle.std.specs.Prelude.{ℕ, zero, suc, ◌+◌, ◌-◌, ◌*◌, ◌/◌, ◌%◌, Bool, cond, List, [], ◌∷◌, leb, ltb, eqb, ℤ, length, take}
 use Rattle.lists.specs.Turns.{values, joined, in_turn}
 use Rattle.units.specs.declared.Refusal.TheVariants.{LengthOutOfRange, FormatWrong, NotWholeFrames, OutputTooSmall}
-use Rattle.units.specs.declared.Verdict.{Verdict}
 use Rattle.units.specs.Checks.{Check, check, decided}
 use Rattle.formats.specs.Format.{ima_samples, codable}
 use Rattle.ima_coder.specs.Part.{samples_from, coded_part, closing_index, chased_part, count_of}
+use Rattle.units.specs.Refusals.{Verdict}
 
 -- ---- a sound s of c channels in blocks of align a
 

@@ -1,15 +1,14 @@
 // Encoding: a whole sound as IMA blocks, and how many samples of each channel are chased.
 #![tactic(auto)]
 
-ghost use Rattle.std.specs.Prelude.{◌≡◌, ◌*◌, ◌%◌, ◌≤◌, length};
+ghost use Rattle.std.specs.Prelude.{◌≡◌, ◌*◌, ◌%◌, ◌≤◌, length, Ok};
 ghost use Rattle.little.specs.Writing.{front, holding};
-ghost use Rattle.units.specs.declared.Verdict.TheVariants.{Accepted};
 ghost use Rattle.encode.specs.Encoding.{blocks_for, encode_verdict, encoded_bytes, chased_count};
 ghost use Rattle.encode.specs.Answer.{coded_of, encoding, encoded_verdict};
 
-use ima_code::{ImaState, STEPS};
+use ima_code::ImaState;
 use ima_coder::{Channel, Channels, mono_block, stereo_block};
-use units::{BytePlace, Frames, Refusal, Verdict};
+use units::{BytePlace, Frames, Refusal};
 
 // What was written: how many bytes, and the chased samples of each channel.
 #[derive(Clone, Copy)]
@@ -19,12 +18,11 @@ pub struct Coded {
     pub right: Frames,
 }
 
-// The answer of encoding.
-#[derive(Clone, Copy)]
-pub enum Encoded {
-    Blocks(Coded),
-    Refused(Refusal),
-}
+// A channel before the first block.
+const SILENT: Channel = Channel {
+    state: ImaState { last: 0, index: 0 },
+    chased: 0,
+};
 
 // Codes n blocks of a mono sound, from the start of a lent buffer.
 fn mono_blocks(sound: &[i16], align: usize, n: usize, out: &mut [u8]) -> u32
@@ -33,20 +31,12 @@ fn mono_blocks(sound: &[i16], align: usize, n: usize, out: &mut [u8]) -> u32
     ensures answer { result ≡ chased_count 1 align sound.now 0 }
     ensures buffer { out.new ≡ front (encoded_bytes 1 align sound.now) out.old }
 {
-    let table = STEPS;
     let groups = align / 4 - 1;
-    let mut channel = Channel {
-        state: ImaState { last: 0, index: 0 },
-        chased: 0,
-    };
+    let mut channel = SILENT;
     let mut frame = 0;
-    let mut to = 0;
-    let mut i = 0;
-    while i < n {
-        channel = mono_block(sound, frame, groups, &table, channel, out, to);
+    for i in 0..n {
+        channel = mono_block(sound, frame, groups, channel, out, i * align);
         frame += 8 * groups + 1;
-        to += align;
-        i += 1;
     }
     channel.chased
 }
@@ -59,24 +49,15 @@ fn stereo_blocks(sound: &[i16], align: usize, n: usize, out: &mut [u8]) -> Chann
     ensures right_chased { result.right.chased ≡ chased_count 2 align sound.now 1 }
     ensures buffer { out.new ≡ front (encoded_bytes 2 align sound.now) out.old }
 {
-    let table = STEPS;
     let groups = align / 8 - 1;
-    let silent = Channel {
-        state: ImaState { last: 0, index: 0 },
-        chased: 0,
-    };
     let mut channels = Channels {
-        left: silent,
-        right: silent,
+        left: SILENT,
+        right: SILENT,
     };
     let mut at = 0;
-    let mut to = 0;
-    let mut i = 0;
-    while i < n {
-        channels = stereo_block(sound, at, groups, &table, channels, out, to);
+    for i in 0..n {
+        channels = stereo_block(sound, at, groups, channels, out, i * align);
         at += 16 * groups + 2;
-        to += align;
-        i += 1;
     }
     channels
 }
@@ -88,33 +69,33 @@ fn blocks_for(channels: usize, align: usize, samples: usize) -> usize
     ensures bound { result ≤ 536870912 }
 {
     let per = formats::ima_samples(channels, align);
-    (samples / channels + per - 1) / per
+    let frames = samples / channels;
+    frames.div_ceil(per)
 }
 
 // The checks of encoding, before anything is written.
-fn settled(samples: usize, channels: usize, align: usize, room: usize) -> Verdict
+fn settled(samples: usize, channels: usize, align: usize, room: usize) -> Result<(), Refusal>
     ensures answer { result ≡ encode_verdict samples channels align room }
 {
     if 536870912 < samples {
-        return Verdict::Refused(Refusal::LengthOutOfRange);
+        return Err(Refusal::LengthOutOfRange);
     }
-    let valid = formats::is_codable(channels, align);
-    if !valid {
-        return Verdict::Refused(Refusal::FormatWrong);
+    if !formats::is_codable(channels, align) {
+        return Err(Refusal::FormatWrong);
     }
     if samples % channels != 0 {
-        return Verdict::Refused(Refusal::NotWholeFrames);
+        return Err(Refusal::NotWholeFrames);
     }
     let n = blocks_for(channels, align, samples);
     if room < n * align {
-        return Verdict::Refused(Refusal::OutputTooSmall);
+        return Err(Refusal::OutputTooSmall);
     }
-    Verdict::Accepted
+    Ok(())
 }
 
 // Writes the blocks of a sound that the checks have passed.
 fn write_blocks(sound: &[i16], channels: usize, align: usize, out: &mut [u8]) -> Coded
-    requires { encode_verdict (length sound.now) channels align (length out.old) ≡ Accepted }
+    requires { encode_verdict (length sound.now) channels align (length out.old) ≡ Ok tt }
     ensures answer { result ≡ coded_of channels align sound.now }
     ensures buffer { out.new ≡ front (encoded_bytes channels align sound.now) out.old }
 {
@@ -136,19 +117,14 @@ fn write_blocks(sound: &[i16], channels: usize, align: usize, out: &mut [u8]) ->
 }
 
 // Encodes a sound as IMA blocks, from the start of a lent buffer.
-pub fn encode(sound: &[i16], channels: u16, align: u16, out: &mut [u8]) -> Encoded
+#[tactic(auto, using(crate::proofs::Answers::answering), unfolding(crate::specs::Answer::encoding))]
+pub fn encode(sound: &[i16], channels: u16, align: u16, out: &mut [u8]) -> Result<Coded, Refusal>
     ensures answer { result ≡ encoding sound.now channels align (length out.old) }
     ensures buffer { out.new
         ≡ holding (encoded_verdict result) (encoded_bytes channels align sound.now) out.old }
 {
-    let verdict = settled(sound.len(), channels as usize, align as usize, out.len());
-    match verdict {
-        Verdict::Refused(refusal) => Encoded::Refused(refusal),
-        Verdict::Accepted => Encoded::Blocks(write_blocks(
-            sound,
-            channels as usize,
-            align as usize,
-            out,
-        )),
-    }
+    let channels = channels as usize;
+    let align = align as usize;
+    settled(sound.len(), channels, align, out.len())?;
+    Ok(write_blocks(sound, channels, align, out))
 }

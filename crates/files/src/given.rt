@@ -5,13 +5,6 @@ use crate::errors::say;
 use std::env::{Env, FillError};
 use std::io;
 
-// A number that a word says.
-#[derive(Drop)]
-pub enum Said {
-    Number(u32),
-    Trouble,
-}
-
 // Puts a word at the start of a lent buffer, and answers how many bytes it has; where there is no such word, or no
 // room for it, it has none.
 pub fn word(rt: &impl Env, i: usize, out: &mut [u8]) -> usize
@@ -44,42 +37,40 @@ pub fn called(rt: &(impl Env + Eprint), count: usize, words: &str) -> io::Result
     Ok(false)
 }
 
-// The value of a decimal digit; 10 for any other byte.
-fn digit(byte: u8) -> u64 {
+// The value of a decimal digit, and none of any other byte.
+fn digit(byte: u8) -> Option<u32> {
     match byte {
-        b'0'..=b'9' => (byte - b'0') as u64,
-        _ => 10,
+        b'0'..=b'9' => Some((byte - b'0') as u32),
+        _ => None,
     }
 }
 
-// The number that decimal digits say, if it is at most 4,294,967,295.
-fn value(text: &[u8]) -> Said {
+// The number that decimal digits say, if it is at most 4,294,967,295. The library's `parse` takes a plus sign too.
+fn value(text: &[u8]) -> Option<u32> {
     if text.is_empty() {
-        return Said::Trouble;
+        return None;
     }
-    let mut sum: u64 = 0;
+    let mut sum: u32 = 0;
     for byte in text {
-        let next = digit(*byte);
-        if 9 < next {
-            return Said::Trouble;
-        }
-        sum = 10 * sum + next;
-        if 4294967295 < sum {
-            return Said::Trouble;
-        }
+        sum = sum.checked_mul(10)?.checked_add(digit(*byte)?)?;
     }
-    Said::Number(sum as u32)
+    Some(sum)
 }
 
 // The number from 0 to the most that a word says; where it says none, the program says how it is called.
-pub fn number(rt: &(impl Env + Eprint), i: usize, most: u32, words: &str) -> io::Result<Said> {
+pub fn number(
+    rt: &(impl Env + Eprint),
+    i: usize,
+    most: u32,
+    words: &str,
+) -> io::Result<Option<u32>> {
     let mut text = [0u8; 4096];
     let n = word(rt, i, &mut text);
-    if let Said::Number(said) = value(&text[..n])
+    if let Some(said) = value(&text[..n])
         && said <= most
     {
-        return Ok(Said::Number(said));
+        return Ok(Some(said));
     }
     usage(rt, words)?;
-    Ok(Said::Trouble)
+    Ok(None)
 }

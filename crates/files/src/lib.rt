@@ -9,8 +9,8 @@ mod rooms;
 mod sizes;
 mod writing;
 
-pub use given::{Said, called, number};
-pub use reading::{Input, fill, read};
+pub use given::{called, number};
+pub use reading::{fill, read};
 pub use rooms::{file_room, new_room, sound_room, texts_room};
 pub use sizes::{samples_in, size, too_long};
 pub use writing::write;

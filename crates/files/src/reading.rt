@@ -9,15 +9,8 @@ use std::io::Read;
 use std::rt::Files;
 use std::{fs, io, str};
 
-// How many bytes were read, or that there was an error, which was reported.
-#[derive(Drop)]
-pub enum Input {
-    Bytes(usize),
-    Trouble,
-}
-
 // Reads until there is no more, a read fails or the lent buffer is full. Answers how many bytes it put at its start,
-// and why a read failed.
+// and why a read failed. A turn is as long as what was read, so this is no `for`.
 pub fn fill<R: Read>(from: &mut R, out: &mut [u8]) -> (usize, io::Result<()>)
     ensures bound { result.0 ≤ length out.new }
     ensures bytes { Consumes (R.remaining from.old) (R.remaining from.new) (take result.0 out.new) }
@@ -50,20 +43,21 @@ fn read_file(rt: &impl Files, name: &[u8], out: &mut [u8]) -> io::Result<usize> 
     Ok(n)
 }
 
-// Reads the file that a word names to a lent buffer, as much of it as there is room for.
+// Reads the file that a word names to a lent buffer, as much of it as there is room for, and answers how many bytes were
+// read; none where there was an error, which is then reported.
 pub fn read<R: Files + Env + Eprint + Alloc>(
     rt: &R,
     program: &str,
     i: usize,
     out: &mut [u8],
-) -> io::Result<Input> {
+) -> io::Result<Option<usize>> {
     let mut name = [0u8; 4096];
     let n = word(rt, i, &mut name);
     match read_file(rt, &name[..n], out) {
-        Ok(size) => Ok(Input::Bytes(size)),
+        Ok(size) => Ok(Some(size)),
         Err(error) => {
             failed(rt, program, "read", &name[..n], error)?;
-            Ok(Input::Trouble)
+            Ok(None)
         }
     }
 }

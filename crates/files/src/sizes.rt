@@ -20,8 +20,7 @@ pub fn too_long(rt: &impl Print, n: usize) -> io::Result<bool>
 
 // Says how many bytes a file has.
 pub fn size(rt: &impl Print, file: &[u8]) -> io::Result<()> {
-    show::field(rt, b"bytes ", file.len() as u64)?;
-    show::line(rt)
+    println!(rt; "bytes {}", file.len())
 }
 
 // How many samples of a sound are so many frames.

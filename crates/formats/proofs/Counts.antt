@@ -3,51 +3,39 @@ use mathlib.Core.Path.{◌≡◌, refl, sym, ap, ◌∙◌}
 use mathlib.Core.Bool.{Bool, false, not, ◌&&◌}
 use mathlib.Core.List.{List}
 use mathlib.Core.Logic.{◌↔◌}
-use Prim.Native.Nat.{ℕ, ◌+◌, ◌-◌, ◌*◌, ◌/◌, ◌%◌, ◌≤◌, ◌<◌}
-use native.Mathlib.Nat.{mul-zero, suc-mul, div-zero, div-le_self, le-div_iff_mul-le, div-lt_iff_lt-mul}
+use Prim.Native.Nat.{ℕ, min, ◌+◌, ◌-◌, ◌*◌, ◌/◌, ◌%◌, ◌≤◌, ◌<◌}
+use native.Mathlib.Nat.{mul-zero, suc-mul, le-div_iff_mul-le, div-lt_iff_lt-mul}
 use native.Mathlib.Numerals.{add-one}
 use native.Mathlib.Omega.{arith}
 use lib.Dec.{leb, ltb, eqb}
-use lib.ListN.{length}
-use mir.Syntax.{w32}
-use mir.Val.{Fits}
 use borrow.Author.Tests.{lt-leb, eq-eqb, ne_eqb}
+use Rattle.std.proofs.lemmas.Grind.{div_ceil_times}
 use Rattle.little.specs.Numbers.{number_at}
 use Rattle.samples.proofs.Signed.{by-leb, by-ltb}
 use Rattle.units.specs.declared.BytePlace.{BytePlace}
 use Rattle.units.specs.declared.Frames.{Frames}
 use Rattle.formats.specs.declared.Format.{Format}
-use Rattle.formats.specs.Frames.{whole_blocks, blocks_in, frames_of, fact_form, needs_fact, count_fits, frames_rule}
+use Rattle.formats.specs.Frames.{whole_blocks, blocks_in, frames_of, needs_fact, count_fits, frames_rule}
 use Rattle.little.proofs.Tests.{tests}
 
 -- ---- whole blocks
 module _ (f : Format) (n : BytePlace) where
-  pub blocks-none : f.align < 1 → 0 ≡ blocks_in f n
-  unfolding blocks_in
-  blocks-none h =
-      let z : f.align ≡ 0 = omega arith in
-      simp (z, div-zero n.0)
-
   pub blocks-are : n.0 / f.align ≡ blocks_in f n
   unfolding blocks_in
   blocks-are = refl
-
-  pub whole-none : f.align < 1 → false ≡ whole_blocks f n
-  unfolding whole_blocks
-  whole-none h = simp tests
 
   pub whole_is : 1 ≤ f.align → eqb (n.0 % f.align) 0 ≡ whole_blocks f n
   unfolding whole_blocks
   whole_is h = simp tests
 
 -- ---- the fact
-pub fact-is : (fact : List ℕ) → leb 4 (length fact) ≡ fact_form fact
-unfolding fact_form
-fact-is fact = refl
-
-pub fact-needed : (f : Format) → not (eqb f.tag 1) ≡ needs_fact f
-unfolding needs_fact
-fact-needed f = refl
+-- ---- a quotient rounded up: c is the least number whose product with s is not below f
+rounded : (c f s : ℕ) → 1 ≤ s → (f ≤ c * s) × (c * s < f + s) → (f + s - 1) / s ≡ c
+rounded c f s k p =
+    let m : (c + 1) * s ≡ c * s + s = ap (λ (n : ℕ). n * s) (add-one c) ∙ suc-mul c s in
+    let low : (c ≤ (f + s - 1) / s) ↔ (c * s ≤ f + s - 1) = le-div_iff_mul-le k in
+    let high : ((f + s - 1) / s < c + 1) ↔ (f + s - 1 < (c + 1) * s) = div-lt_iff_lt-mul k in
+    omega (arith, low.1 (omega (arith, p.1)), high.1 (omega (arith, p.0)))
 
 -- ---- f frames in b blocks of s samples
 module _ (b s f : ℕ) where
@@ -89,12 +77,12 @@ module _ (b s f : ℕ) where
       unfolding count_fits
       count-is = rounded-up ∙ simp tests
 
+      -- by the library's quotient, rounded up
+      pub count_is : eqb (f / s + min 1 (f % s)) b ≡ count_fits b s f
+      count_is = ap (λ (n : ℕ). eqb n b) (sym (rounded (f / s + min 1 (f % s)) f s k (div_ceil_times f s k))) ∙ count-is
+
 -- ---- the frames of the sound
 module _ (f : Format) (n : BytePlace) {b : ℕ} (e : b ≡ blocks_in f n) where
-  pub blocks-fit : n.0 < 4294967296 → Fits w32 b
-  unfolding blocks_in
-  blocks-fit h = record { fits = omega (arith, div-le_self n.0 f.align) }
-
   pub frames-pcm : (fact : List ℕ) → f.tag ≡ 1 → ◌≡◌ {A = Frames} (record { 0 = b }) (frames_of f n fact)
   unfolding frames_of
   frames-pcm fact h = simp (tests, e)
@@ -112,10 +100,4 @@ pub frames-stored : (f : Format) (n : BytePlace) (fact : List ℕ) {k : ℕ}
 unfolding frames_of
 frames-stored f n fact h e = simp (tests, e)
 
-pub ruleset blocks = (blocks-none, blocks-are, whole-none, whole_is)
-
-pub ruleset facts = (fact-is, fact-needed)
-
-pub ruleset counting = (count-empty, count-no-samples, count-is)
-
-pub ruleset framing = (blocks-fit, frames-pcm, frames-stored, frames-exact, frames-counted)
+pub ruleset counting = (count-empty, count-no-samples, count_is)

@@ -5,7 +5,6 @@ pub mod Forms
 pub mod Lengths
 pub mod Pairs
 pub mod Putting
-pub mod Rules
 pub mod Taken
 pub mod Written
 pub mod Bytes

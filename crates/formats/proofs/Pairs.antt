@@ -4,7 +4,6 @@ use mathlib.Core.Bool.{Bool, true, false}
 use mathlib.Core.List.{List, [], ◌∷◌, ◌++◌}
 use Prim.Native.Nat.{ℕ, zero, suc, ◌+◌, ◌*◌, ◌≤◌, ◌<◌}
 use native.Mathlib.Omega.{arith}
-use lib.Dec.{eqb}
 use lib.IntN.{ℤ, pos}
 use lib.ListN.{length, drop, get_or, length-append}
 use lib.Seq.{drop-nil}
@@ -17,26 +16,11 @@ use Rattle.little.specs.Writing.{Put}
 use Rattle.little.proofs.Filling.{Written, put_next, drop-next, write-begins, write-piece, write-ends}
 use Rattle.little.proofs.Tests.{tests}
 use Rattle.lists.proofs.Laws.{Holding, hold-begins, hold-ends, hold-fails, hold-next}
-use Rattle.samples.specs.Sound.{bits_of, sample_bytes}
+use Rattle.samples.specs.Sound.{sample_bytes}
 use Rattle.samples.proofs.Signed.{back}
 use Rattle.samples.proofs.Turning.{length-sample}
 use Rattle.formats.specs.Format.{pairs, pair_at, pairs_form}
 use Rattle.formats.specs.Bytes.{pairs_bytes}
-
--- ---- one pair
-bits : {z : ℤ} {b : ℕ} → SFits w16 z → b ≡ bits_of (back w16 z) → b ≡ bits_of z
-bits f e = e ∙ ap bits_of (to_z-of_z f)
-
-module _ (s : List ℕ) (at : ℕ) (pair : List ℤ) {n b : ℕ} (f : SFits w16 (get_or pair 0 (pos 0))) (g : n ≡ number_at 2 s at)
-    (e : b ≡ bits_of (back w16 (get_or pair 0 (pos 0)))) where
-  pub pair-differs : (n ≡ b → ⊥) → false ≡ pair_at s at pair
-  unfolding pair_at
-  pair-differs q = simp (tests, ← g, ← bits f e)
-
-  pub pair-second : {m d : ℕ} → n ≡ b → SFits w16 (get_or pair 1 (pos 0)) → m ≡ number_at 2 s (at + 2)
-      → d ≡ bits_of (back w16 (get_or pair 1 (pos 0))) → eqb m d ≡ pair_at s at pair
-  unfolding pair_at
-  pair-second q h i j = simp (tests, ← g, ← bits f e, ← i, ← bits h j)
 
 -- ---- all of them
 abbrev pub Standing : List ℕ → List (List ℤ) → ℕ → Type 0
@@ -57,7 +41,7 @@ module _ (s : List ℕ) {c : ℕ} (k : c ≡ number_at 2 s 20) where
     pairs-stand l = simp (tests, ← k) (hold-ends w l)
 
 pub ruleset pairing =
-    (pair-differs, pair-second, hold-begins, hold-next, pairs-miscounted, pairs-differ, pairs-stand, not-true, not-false)
+    (hold-begins, hold-next, pairs-miscounted, pairs-differ, pairs-stand, not-true, not-false)
 
 -- ---- one pair, put
 pub pair_put : {d e g : List ℕ} {at : ℕ} {x y : ℤ} → SFits w16 x → SFits w16 y → Put d at (sample_bytes (back w16 x)) e

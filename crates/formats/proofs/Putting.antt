@@ -12,10 +12,9 @@ use Rattle.little.specs.Numbers.{bytes_of}
 use Rattle.little.specs.Writing.{Put}
 use Rattle.little.proofs.Filling.{put-long, put_next}
 use Rattle.little.proofs.Tests.{tests}
-use Rattle.units.specs.declared.Frames.{Frames}
 use Rattle.formats.specs.declared.Format.{Format}
 use Rattle.formats.specs.Format.{pairs, format_rule}
-use Rattle.formats.specs.Bytes.{average_of, shared_bytes, extension_bytes, pairs_bytes, coefficient_bytes, format_bytes, fact_bytes}
+use Rattle.formats.specs.Bytes.{average_of, shared_bytes, extension_bytes, pairs_bytes, coefficient_bytes, format_bytes}
 use Rattle.formats.proofs.Forms.{product-fits}
 use Rattle.formats.proofs.Taken.{taken-rate, taken-samples, taken-microsoft}
 use Rattle.formats.proofs.Bounds.{taken-most}
@@ -113,8 +112,3 @@ module _ (f : Format) (at : ℕ) (d : List ℕ) (l : at + length (format_bytes f
               (put_next (put_next p q refl (omega (arith, long))) c refl (omega (arith, long, length-coefficients)))
 
 pub ruleset format-putting = (format-room, pcm-put, ima-room, ima-put, microsoft-room, coefficients-room, microsoft-put)
-
--- ---- the fact
-pub fact-put : {d e : List ℕ} {at : ℕ} (frames : Frames) → Put d at (bytes_of 4 frames.0) e → Put d at (fact_bytes frames) e
-unfolding fact_bytes
-fact-put frames p = p

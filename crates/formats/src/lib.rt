@@ -16,6 +16,7 @@ ghost use Rattle.formats.specs.Frames.{whole_blocks, frames_of, fact_form, needs
 
 use units::{BytePlace, Frames};
 
+// Tags stay numbers: a record that is lent to `write` may have any, and is then refused 9.
 pub const PCM: u16 = 1;
 
 pub const MICROSOFT: u16 = 2;
@@ -45,22 +46,25 @@ pub struct Format {
 }
 
 // The samples of a block, as a `fmt ` stores them.
+#[tactic(auto, unfolding(crate::specs::Format::samples_field))]
 fn samples_in(bytes: &[u8], tag: u16) -> u16
     ensures answer { result ≡ samples_field bytes.now tag }
 {
     if tag == PCM {
-        return 1;
+        1
+    } else {
+        little::u16_or_zero(bytes, 18)
     }
-    little::u16_or_zero(bytes, 18)
 }
 
 // What a `fmt ` says.
+#[tactic(auto, unfolding(crate::specs::Format::format_of))]
 pub fn format_of(bytes: &[u8]) -> Format
     ensures answer { result ≡ format_of bytes.now }
 {
     let tag = little::u16_or_zero(bytes, 0);
     Format {
-        tag: tag,
+        tag,
         channels: little::u16_or_zero(bytes, 2),
         rate: little::u32_or_zero(bytes, 4),
         bits: little::u16_or_zero(bytes, 14),
@@ -70,33 +74,27 @@ pub fn format_of(bytes: &[u8]) -> Format
 }
 
 // Whether a `fmt ` is of some size, and has an extension of some size within it.
+#[tactic(auto, unfolding(crate::specs::Format::extended))]
 fn has_extension(bytes: &[u8], size: usize, extension: usize) -> bool
     ensures answer { result ≡ extended size extension bytes.now }
 {
-    if bytes.len() < size {
-        return false;
-    }
     let stored = little::u16_or_zero(bytes, 16) as usize;
-    if stored < extension {
-        return false;
-    }
-    18 + stored <= bytes.len()
+    size <= bytes.len() && extension <= stored && 18 + stored <= bytes.len()
 }
 
 // Whether a pair stands at a place.
+#[tactic(auto, unfolding(crate::specs::Format::pair_at))]
 fn has_pair(bytes: &[u8], at: usize, pair: [i16; 2]) -> bool
     requires { at ≤ 65536 }
     ensures answer { result ≡ pair_at bytes.now at pair }
 {
     let first = little::u16_or_zero(bytes, at);
-    if first != samples::to_bits(pair[0]) {
-        return false;
-    }
     let second = little::u16_or_zero(bytes, at + 2);
-    second == samples::to_bits(pair[1])
+    first == samples::to_bits(pair[0]) && second == samples::to_bits(pair[1])
 }
 
 // Whether the seven pairs follow a pair count of 7.
+#[tactic(auto, unfolding(crate::specs::Format::pairs_form))]
 fn has_pairs(bytes: &[u8]) -> bool
     ensures answer { result ≡ pairs_form bytes.now }
 {
@@ -104,20 +102,16 @@ fn has_pairs(bytes: &[u8]) -> bool
     if count != 7 {
         return false;
     }
-    let pairs = PAIRS;
-    let mut i = 0;
-    while i < 7 {
-        let pair = pairs[i];
-        let stands = has_pair(bytes, 22 + 4 * i, pair);
-        if !stands {
+    for (i, pair) in PAIRS.iter().enumerate() {
+        if !has_pair(bytes, 22 + 4 * i, *pair) {
             return false;
         }
-        i += 1;
     }
     true
 }
 
 // Whether the average is rate x align.
+#[tactic(auto, unfolding(crate::specs::Format::average))]
 fn has_average(bytes: &[u8]) -> bool
     ensures answer { result ≡ average bytes.now }
 {
@@ -128,85 +122,49 @@ fn has_average(bytes: &[u8]) -> bool
 }
 
 // Whether a `fmt ` has the form that its tag asks for.
+#[tactic(auto, unfolding(crate::specs::Format::format_form))]
 pub fn format_form(bytes: &[u8]) -> bool
     ensures answer { result ≡ format_form bytes.now }
 {
     if bytes.len() < 16 {
         return false;
     }
-    let tag = little::u16_or_zero(bytes, 0);
-    if tag == PCM {
-        return has_average(bytes);
+    match little::u16_or_zero(bytes, 0) {
+        PCM => has_average(bytes),
+        IMA => has_extension(bytes, 20, 2),
+        MICROSOFT => has_extension(bytes, 50, 32) && has_pairs(bytes),
+        _ => false,
     }
-    if tag == IMA {
-        return has_extension(bytes, 20, 2);
-    }
-    if tag != MICROSOFT {
-        return false;
-    }
-    let extended = has_extension(bytes, 50, 32);
-    if !extended {
-        return false;
-    }
-    has_pairs(bytes)
 }
 
 // Whether the channels and the rate are ones that are taken.
+#[tactic(auto, unfolding(crate::specs::Format::shared))]
 fn shared_rule(format: Format) -> bool
     ensures answer { result ≡ shared format }
 {
-    if format.channels < 1 {
-        return false;
-    }
-    if 2 < format.channels {
-        return false;
-    }
-    if format.rate < 1 {
-        return false;
-    }
-    format.rate <= 192000
-}
-
-// Whether PCM sound may have so many bits.
-fn pcm_bits(bits: u16) -> bool
-    ensures answer { result ≡ (eqb bits 8 || eqb bits 16) }
-{
-    if bits == 8 {
-        return true;
-    }
-    bits == 16
+    (1..=2).contains(&format.channels) && (1..=192000).contains(&format.rate)
 }
 
 // Whether PCM sound has 8 or 16 bits, and frames of that size.
+#[tactic(auto, unfolding(crate::specs::Format::pcm_rule))]
 fn pcm_rule(format: Format) -> bool
     ensures answer { result ≡ pcm_rule format }
 {
-    let taken = pcm_bits(format.bits);
-    if !taken {
-        return false;
-    }
     let frame = format.channels as u32 * format.bits as u32 / 8;
-    if format.align as u32 != frame {
-        return false;
-    }
-    format.samples == 1
+    matches!(format.bits, 8 | 16) && format.align as u32 == frame && format.samples == 1
 }
 
 // Whether ADPCM sound has 4 bits, and blocks of a size that is taken.
+#[tactic(auto, unfolding(crate::specs::Format::blocked))]
 fn blocked_rule(format: Format) -> bool
     ensures answer { result ≡ blocked format }
 {
-    if format.bits != 4 {
-        return false;
-    }
-    let align = format.align as u32;
-    if align < 8 * (format.channels as u32) {
-        return false;
-    }
-    align <= 4096
+    let least = 8 * format.channels as u32;
+    format.bits == 4 && (least..=4096).contains(&(format.align as u32))
 }
 
 // The samples of an IMA block in each channel: one for the header, and one for each code.
+#[tactic(auto, unfolding(crate::specs::Format::ima_samples))]
 pub fn ima_samples(channels: usize, align: usize) -> usize
     requires { (1 ≤ channels) × (4 * channels ≤ align) × (align ≤ 4096) }
     ensures answer { result ≡ ima_samples channels align }
@@ -215,7 +173,9 @@ pub fn ima_samples(channels: usize, align: usize) -> usize
     (align - 4 * channels) * 2 / channels + 1
 }
 
-// The samples of a Microsoft block in each channel: two for the header, and one for each nibble.
+// The samples of a Microsoft block in each channel: two for the header, and one for each nibble. As one function with
+// the two constants as parameters, this and the one above would say less.
+#[tactic(auto, unfolding(crate::specs::Format::ms_samples))]
 fn ms_samples(channels: usize, align: usize) -> usize
     requires { (1 ≤ channels) × (7 * channels ≤ align) × (align ≤ 4096) }
     ensures answer { result ≡ ms_samples channels align }
@@ -224,29 +184,26 @@ fn ms_samples(channels: usize, align: usize) -> usize
 }
 
 // Whether IMA blocks hold whole words, and the samples that fill them.
+#[tactic(auto, unfolding(crate::specs::Format::ima_rule, crate::specs::Format::blocked))]
 fn ima_rule(format: Format) -> bool
     requires { 1 ≤ format.channels }
     ensures answer { result ≡ ima_rule format }
 {
-    let blocked = blocked_rule(format);
-    if !blocked {
+    if !blocked_rule(format) {
         return false;
     }
     let align = format.align as usize;
     let channels = format.channels as usize;
-    if align % (4 * channels) != 0 {
-        return false;
-    }
-    format.samples as usize == ima_samples(channels, align)
+    align % (4 * channels) == 0 && format.samples as usize == ima_samples(channels, align)
 }
 
 // Whether Microsoft blocks hold the samples that fill them.
+#[tactic(auto, unfolding(crate::specs::Format::microsoft_rule, crate::specs::Format::blocked))]
 fn microsoft_rule(format: Format) -> bool
     requires { 1 ≤ format.channels }
     ensures answer { result ≡ microsoft_rule format }
 {
-    let blocked = blocked_rule(format);
-    if !blocked {
+    if !blocked_rule(format) {
         return false;
     }
     let align = format.align as usize;
@@ -255,110 +212,93 @@ fn microsoft_rule(format: Format) -> bool
 }
 
 // Whether what a `fmt ` says is taken.
+#[tactic(auto, unfolding(crate::specs::Format::format_rule, crate::specs::Format::shared))]
 pub fn format_rule(format: Format) -> bool
     ensures answer { result ≡ format_rule format }
 {
-    let shared = shared_rule(format);
-    if !shared {
+    if !shared_rule(format) {
         return false;
     }
-    let tag = format.tag;
-    if tag == PCM {
-        return pcm_rule(format);
+    match format.tag {
+        PCM => pcm_rule(format),
+        IMA => ima_rule(format),
+        MICROSOFT => microsoft_rule(format),
+        _ => false,
     }
-    if tag == IMA {
-        return ima_rule(format);
-    }
-    if tag != MICROSOFT {
-        return false;
-    }
-    microsoft_rule(format)
 }
 
 // The format of PCM sound.
+#[tactic(auto, unfolding(crate::specs::Format::plain_format))]
 pub fn plain(channels: u16, rate: u32, bits: u16) -> Format
     requires { (channels ≤ 2) × (bits ≤ 16) }
     ensures answer { result ≡ plain_format channels rate bits }
 {
     Format {
         tag: PCM,
-        channels: channels,
-        rate: rate,
-        bits: bits,
+        channels,
+        rate,
+        bits,
         align: channels * bits / 8,
         samples: 1,
     }
 }
 
 // Whether IMA has blocks of so many channels and this align.
+#[tactic(auto, unfolding(crate::specs::Format::codable))]
 pub fn is_codable(channels: usize, align: usize) -> bool
     ensures answer { result ≡ codable channels align }
 {
-    if channels < 1 {
-        return false;
-    }
-    if 2 < channels {
-        return false;
-    }
-    let word = 4 * channels;
-    if align % word != 0 {
-        return false;
-    }
-    if align < 8 * channels {
-        return false;
-    }
-    align <= 4096
+    (1..=2).contains(&channels)
+        && align % (4 * channels) == 0
+        && (8 * channels..=4096).contains(&align)
 }
 
 // The samples of an IMA block in each channel; 0, where there are no blocks of so many channels and
 // this align.
+#[tactic(auto, unfolding(crate::specs::Format::ima_stored, crate::specs::Format::codable))]
 fn ima_stored(channels: u16, align: u16) -> u16
     ensures answer { result ≡ ima_stored channels align }
 {
-    let valid = is_codable(channels as usize, align as usize);
-    if !valid {
+    if !is_codable(channels as usize, align as usize) {
         return 0;
     }
     ima_samples(channels as usize, align as usize) as u16
 }
 
 // The format of IMA sound in blocks of an align; no file has it where there are no such blocks.
+#[tactic(auto, unfolding(crate::specs::Format::ima_format))]
 pub fn ima(channels: u16, rate: u32, align: u16) -> Format
     ensures answer { result ≡ ima_format channels rate align }
 {
     Format {
         tag: IMA,
-        channels: channels,
-        rate: rate,
+        channels,
+        rate,
         bits: 4,
-        align: align,
+        align,
         samples: ima_stored(channels, align),
     }
 }
 
 // How many whole blocks some bytes of sound are; none, where a block has no bytes.
+#[tactic(auto, unfolding(crate::specs::Frames::blocks_in))]
 fn blocks_in(format: Format, sound: BytePlace) -> usize
     ensures answer { result ≡ blocks_in format sound }
 {
-    let align = format.align as usize;
-    if align < 1 {
-        return 0;
-    }
-    sound.0 / align
+    sound.0.checked_div(format.align as usize).unwrap_or(0)
 }
 
 // Whether sound data are whole frames or blocks.
+#[tactic(auto, unfolding(crate::specs::Frames::whole_blocks))]
 pub fn whole_blocks(format: Format, sound: BytePlace) -> bool
     ensures answer { result ≡ whole_blocks format sound }
 {
     let align = format.align as usize;
-    if align < 1 {
-        return false;
-    }
-    sound.0 % align == 0
+    0 < align && sound.0 % align == 0
 }
 
 // The frames of the sound: of PCM by its length, of ADPCM by the fact.
+#[tactic(auto, unfolding(crate::specs::Frames::frames_of, crate::specs::Frames::blocks_in))]
 pub fn frames_of(format: Format, sound: BytePlace, fact: &[u8]) -> Frames
     requires { sound.0 < 4294967296 }
     ensures answer { result ≡ frames_of format sound fact.now }
@@ -371,6 +311,7 @@ pub fn frames_of(format: Format, sound: BytePlace, fact: &[u8]) -> Frames
 }
 
 // Whether a fact has room for its count.
+#[tactic(auto, unfolding(crate::specs::Frames::fact_form))]
 pub fn fact_form(fact: &[u8]) -> bool
     ensures answer { result ≡ fact_form fact.now }
 {
@@ -378,6 +319,7 @@ pub fn fact_form(fact: &[u8]) -> bool
 }
 
 // Whether sound of this format needs a fact.
+#[tactic(auto, unfolding(crate::specs::Frames::needs_fact))]
 pub fn needs_fact(format: Format) -> bool
     ensures answer { result ≡ needs_fact format }
 {
@@ -386,6 +328,7 @@ pub fn needs_fact(format: Format) -> bool
 
 // Whether a number of frames fills some blocks, the last one whole or in part. No product is made, as
 // it may pass 64 bits: the blocks that the frames fill are a quotient, rounded up.
+#[tactic(auto, unfolding(crate::specs::Frames::count_fits))]
 fn count_fits(blocks: usize, samples: u16, frames: u32) -> bool
     ensures answer { result ≡ count_fits blocks samples frames }
 {
@@ -395,12 +338,11 @@ fn count_fits(blocks: usize, samples: u16, frames: u32) -> bool
     if samples < 1 {
         return false;
     }
-    let each = samples as usize;
-    let filled = (frames as usize + each - 1) / each;
-    filled == blocks
+    (frames as usize).div_ceil(samples as usize) == blocks
 }
 
 // Whether a number of frames is one that some bytes of sound can have.
+#[tactic(auto, unfolding(crate::specs::Frames::frames_rule))]
 pub fn frames_rule(format: Format, sound: BytePlace, frames: Frames) -> bool
     ensures answer { result ≡ frames_rule format sound frames }
 {
@@ -419,17 +361,11 @@ pub fn format_size(format: Format) -> usize
     ensures bound { result ≤ 50 }
     ensures even { result % 2 ≡ 0 }
 {
-    let tag = format.tag;
-    if tag == PCM {
-        return 16;
+    match format.tag {
+        IMA => 20,
+        MICROSOFT => 50,
+        _ => 16,
     }
-    if tag == IMA {
-        return 20;
-    }
-    if tag == MICROSOFT {
-        return 50;
-    }
-    16
 }
 
 // The bytes of a second, where a block's samples share them: rounded down.
@@ -511,12 +447,8 @@ fn put_pairs(out: &mut [u8], at: usize)
     requires { at + 28 ≤ length out.old }
     ensures buffer { Put out.old at (pairs_bytes pairs) out.new }
 {
-    let pairs = PAIRS;
-    let mut i = 0;
-    while i < 7 {
-        let pair = pairs[i];
-        put_pair(out, at + 4 * i, pair);
-        i += 1;
+    for (i, pair) in PAIRS.iter().enumerate() {
+        put_pair(out, at + 4 * i, *pair);
     }
 }
 
@@ -536,19 +468,18 @@ pub fn put_format(out: &mut [u8], at: usize, format: Format)
     ensures buffer { Put out.old at (format_bytes format) out.new }
 {
     put_shared(out, at, format);
-    let tag = format.tag;
-    if tag == PCM {
-        return;
+    match format.tag {
+        PCM => {}
+        IMA => put_extension(out, at + 16, 2, format),
+        _ => {
+            put_extension(out, at + 16, 32, format);
+            put_coefficients(out, at + 20);
+        }
     }
-    if tag == IMA {
-        put_extension(out, at + 16, 2, format);
-        return;
-    }
-    put_extension(out, at + 16, 32, format);
-    put_coefficients(out, at + 20);
 }
 
 // Puts a `fact`.
+#[tactic(auto, unfolding(crate::specs::Bytes::fact_bytes))]
 pub fn put_fact(out: &mut [u8], at: usize, frames: Frames)
     requires { at + 4 ≤ length out.old }
     ensures buffer { Put out.old at (fact_bytes frames) out.new }

@@ -14,7 +14,7 @@ use Rattle.little.specs.Writing.{Put}
 use Rattle.samples.proofs.Signed.{back}
 use Rattle.codec.specs.Codec.{low, high, nibbles}
 use Rattle.codec.proofs.Heard.{nibbles-long, first-at, second_at}
-use Rattle.codec.proofs.Loops.{Double, both_left, double-begins, double-frame, double-ends, high_fits}
+use Rattle.codec.proofs.Loops.{Double, both_left, double-begins, double-frame, double-ends}
 use Rattle.ima_code.specs.declared.ImaState.{ImaState}
 use Rattle.ima_code.specs.Code.{after_code}
 use Rattle.ima_block.specs.Block.{channel_part, ima}
@@ -46,27 +46,22 @@ pub record Stereo (s : List ℕ) (frames : ℕ) (out₀ : List ℤ) (at : ℕ) (
 module _ {s : List ℕ} {frames : ℕ} {out₀ : List ℤ} {at : ℕ} {l₀ r₀ : ImaState} where
   pub stereo-begins : frames + 8 ≤ length s → length s % 8 ≡ 0 → at + 2 * frames ≤ length out₀
       → length s * 1 < 2 ^ 63 → length out₀ * 2 < 2 ^ 63 → Indexed l₀ → Indexed r₀
-      → Stereo s frames out₀ at l₀ r₀ out₀ l₀ r₀ frames at 0
-  stereo-begins h e m u v g k =
+      → {n to : ℕ} → n ≡ frames → to ≡ at → Stereo s frames out₀ at l₀ r₀ out₀ l₀ r₀ n to 0
+  stereo-begins h e m u v g k n' to' =
       let enough : (ch : ℕ) → ch < 2 → frames ≤ length (codes_for s ch) =
       λ ch c. omega (arith, codes-long s ch c e, nibbles-long low high (bytes_for s ch)) in
-      record {
+      rw (n', to')
+      (record {
         eights = e;
         bytes = omega arith;
         room = m;
         small = omega arith;
         both = double-begins (enough 0 (omega arith)) (enough 1 (omega arith)) m g k;
-      }
+      })
 
   module _ {out : List ℤ} {l r : ImaState} {n to i : ℕ} (w : Stereo s frames out₀ at l₀ r₀ out l r n to i) where
-    pub stereo-stores : {j : ℕ} → 2 ≤ n → j ≤ 3 → to + j < length out
-    stereo-stores h j = omega (arith, w.room)
-
     -- the codes of the next byte of each channel
     module _ (h : 1 ≤ n) where
-      pub stereo-byte : place_of i + 4 < length s
-      stereo-byte = omega (arith, w.bytes, w.eights)
-
       module _ (ch : ℕ) (c : ch < 2) where
         behind : i < length (bytes_for s ch)
         behind = omega (arith, codes-long s ch c w.eights, w.bytes)
@@ -94,16 +89,14 @@ module _ {s : List ℕ} {frames : ℕ} {out₀ : List ℤ} {at : ℕ} {l₀ r₀
           (f ∙ ap (after_code r) (low-is 1 (omega arith))) x y
 
     -- and the high one: a turn
-    pub stereo-turn : {a b c d : ImaState} → 2 ≤ n
+    pub stereo-turn : {a b c d : ImaState} {j k q : ℕ} → 2 ≤ n → j ≡ n - 2 → k ≡ to + 4 → q ≡ i + 1
         → a ≡ after_code l (get_or s (place_of i) 0 % 16) → b ≡ after_code r (get_or s (place_of i + 4) 0 % 16)
         → c ≡ after_code a (get_or s (place_of i) 0 / 16) → d ≡ after_code b (get_or s (place_of i + 4) 0 / 16)
         → Indexed a → Indexed b → Indexed c → Indexed d
         → SFits w16 a.last → SFits w16 b.last → SFits w16 c.last → SFits w16 d.last
-        → Stereo s frames out₀ at l₀ r₀
-        (set (set (set (set out to (back w16 a.last)) (to + 1) (back w16 b.last))
-        (to + 2) (back w16 c.last)) (to + 3) (back w16 d.last))
-        c d (n - 2) (to + 4) (i + 1)
-    stereo-turn {a} {b} m e f j k x y u v fa fb fc fd =
+        → {za zb zc zd : ℤ} → za ≡ back w16 a.last → zb ≡ back w16 b.last → zc ≡ back w16 c.last → zd ≡ back w16 d.last
+        → Stereo s frames out₀ at l₀ r₀ (set (set (set (set out to za) (to + 1) zb) (to + 2) zc) (to + 3) zd) c d j k q
+    stereo-turn {a} {b} m j' k' q' e f j k x y u v fa fb fc fd za' zb' zc' zd' =
         let h : 1 ≤ n = omega arith in
         let p : n - 1 ≡ suc (n - 2) = omega arith in
         let q : to + 3 ≡ to + 2 + 1 = omega arith in
@@ -112,7 +105,7 @@ module _ {s : List ℕ} {frames : ℕ} {out₀ : List ℤ} {at : ℕ} {l₀ r₀
         let z = double-frame (stereo-low h e f x y) p q o t
         (j ∙ ap (λ (p : ℕ). after_code a (high (get_or s p 0))) (left-place h) ∙ ap (after_code a) (high_is h 0 (omega arith)))
         (k ∙ ap (after_code b) (high_is h 1 (omega arith))) u v in
-        rw (to_z-of_z fa, to_z-of_z fb, to_z-of_z fc, to_z-of_z fd)
+        rw (za', zb', zc', zd', to_z-of_z fa, to_z-of_z fb, to_z-of_z fc, to_z-of_z fd, j', k', q')
         (record {
           eights = w.eights;
           bytes = omega (arith, w.bytes);
@@ -122,21 +115,15 @@ module _ {s : List ℕ} {frames : ℕ} {out₀ : List ℤ} {at : ℕ} {l₀ r₀
         })
 
     -- an odd frame is the last
-    pub stereo-odd : {a b : ImaState} → n ≡ 1
-        → a ≡ after_code l (get_or s (place_of i) 0 % 16) → b ≡ after_code r (get_or s (place_of i + 4) 0 % 16)
+    pub stereo-odd : {a b : ImaState} {j k : ℕ} → n ≡ 1 → j ≡ to → k ≡ i
+        → a ≡ after_code l (get_or s (place_of k) 0 % 16) → b ≡ after_code r (get_or s (place_of k + 4) 0 % 16)
         → Indexed a → Indexed b → SFits w16 a.last → SFits w16 b.last
-        → Put out₀ at (both_left ima (codes_for s 0) (codes_for s 1) frames l₀ r₀ 0)
-        (set (set out to (back w16 a.last)) (to + 1) (back w16 b.last))
-    stereo-odd m e f x y fa fb =
-        rw (to_z-of_z fa, to_z-of_z fb) (double-ends (stereo-low (omega arith) e f x y) (omega arith))
-
-    pub stereo-last : n ≡ 1 → to + 1 < length out
-    stereo-last h = omega (arith, w.room)
+        → {za zb : ℤ} → za ≡ back w16 a.last → zb ≡ back w16 b.last
+        → Put out₀ at (both_left ima (codes_for s 0) (codes_for s 1) frames l₀ r₀ 0) (set (set out j za) (j + 1) zb)
+    stereo-odd m j' k' u v x y fa fb za' zb' =
+        let e = rw k' at u in
+        let f = rw k' at v in
+        rw (za', zb', to_z-of_z fa, to_z-of_z fb, j') (double-ends (stereo-low (omega arith) e f x y) (omega arith))
 
     pub stereo-even : n < 2 → (n ≡ 1 → ⊥) → Put out₀ at (both_left ima (codes_for s 0) (codes_for s 1) frames l₀ r₀ 0) out
     stereo-even h g = double-ends w.both (omega arith)
-
-    pub stereo-long : length out ≡ length out₀
-    stereo-long = w.both.filled.long
-
-pub ruleset double = (high_fits, stereo-begins, stereo-byte, stereo-stores, stereo-turn, stereo-last, stereo-odd, stereo-even, stereo-long)

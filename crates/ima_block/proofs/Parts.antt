@@ -1,7 +1,7 @@
 -- Laws of the parts of a block's channels: where the bytes of each stand, what its header says, and the
 -- check of the headers. Assumes nothing.
 use mathlib.Core.Path.{◌≡◌, refl, sym, ap, ◌∙◌}
-use mathlib.Core.Bool.{true, false}
+use mathlib.Core.Bool.{true}
 use mathlib.Core.List.{List, [], ◌∷◌}
 use Prim.Native.Nat.{ℕ, ◌+◌, ◌-◌, ◌*◌, ◌/◌, ◌%◌, ◌≤◌, ◌<◌}
 use native.Mathlib.Nat.{add-zero, mul-zero, one-mul, mul-div-le, le-div_iff_mul-le}
@@ -9,17 +9,14 @@ use native.Mathlib.Omega.{arith}
 use lib.Dec.{leb}
 use lib.ListN.{length, drop, get_or, length-drop}
 use lib.Seq.{get_or-drop}
-use mir.Syntax.{w8, w64}
-use mir.Val.{Fits}
-use mir.Facts.{Fits-8_64}
-use borrow.Author.Tests.{leb-true, lt-leb, le-leb}
+use borrow.Author.Tests.{leb-true}
 use Rattle.little.specs.Numbers.{number_at}
 use Rattle.little.proofs.Reading.{two_bytes}
 use Rattle.lists.specs.Turns.{picked}
 use Rattle.lists.proofs.Turns.{picked-turn, turn_one, picked-at, picked-long}
 use Rattle.samples.specs.Sound.{signed_of, sample_at}
 use Rattle.codec.specs.Codec.{headers_valid}
-use Rattle.codec.proofs.Channels.{first-refused, only-valid, second-decides, each-valid}
+use Rattle.codec.proofs.Channels.{each-valid}
 use Rattle.ima_code.specs.declared.ImaState.{ImaState}
 use Rattle.ima_block.specs.Block.{channel_part, ima_opened, ima}
 
@@ -66,6 +63,9 @@ module _ (c : ℕ) (s : List ℕ) (ch : ℕ) (h : ch < c) where
     unfolding ima_opened
     valid-at = ap (λ (k : ℕ). leb k 88) (head_at 2 (omega arith))
 
+    pub header-is : leb (get_or s (4 * ch + 2) 0) 88 ≡ ima.valid c s ch
+    header-is = sym valid-at
+
     index_at : headers_valid ima c s ≡ true → get_or s (4 * ch + 2) 0 < 89
     index_at e = omega (arith, leb-true (get_or s (4 * ch + 2) 0) 88 (sym valid-at ∙ each-valid ima s e ch h))
 
@@ -80,11 +80,7 @@ module _ (s : List ℕ) (ch : ℕ) (c : ch < 2) (e : length s % 8 ≡ 0) where
       let p : 4 * ch + 8 * ((4 + i) / 4) + (4 + i) % 4 ≡ 8 + i + 4 * (i / 4) + 4 * ch = omega arith in
       get_or-drop 4 (channel_part 2 s ch) i 0 ∙ part_at 2 s ch c (4 + i) (omega arith) ∙ ap (λ (k : ℕ). get_or s k 0) p
 
--- ---- in the words of the code: a byte of a header as a wider number
-pub byte-widens : (s : List ℕ) (i : ℕ) → ((k : ℕ) → Fits w8 (get_or s k 0)) → Fits w64 (get_or s i 0)
-byte-widens s i f = Fits-8_64 (f i)
-
--- a channel as its header says, and its index
+-- ---- a channel as its header says, and its index
 module _ (s : List ℕ) where
   module _ (h : 4 ≤ length s) where
     pub opened_one : {t : ImaState} → t.last ≡ sample_at s 0 → t.index ≡ get_or s 2 0 → t ≡ ima_opened (channel_part 1 s 0)
@@ -105,20 +101,3 @@ module _ (s : List ℕ) where
 
     pub index-right : headers_valid ima 2 s ≡ true → get_or s 6 0 < 89
     index-right = index_at 2 s 1 (omega arith) h
-
--- the check of the headers, which may refuse above any k from 88 on
-module _ (s : List ℕ) {c : ℕ} (l : 1 ≤ c) (u : c ≤ 2) (h : 4 * c ≤ length s) where
-  pub fine-first : {k : ℕ} → k < get_or s 2 0 → 88 ≤ k → false ≡ headers_valid ima c s
-  fine-first g i = first-refused ima s l (valid-at c s 0 l h ∙ lt-leb (get_or s 2 0) 88 (omega arith))
-
-  module _ (a : get_or s 2 0 ≤ 88) where
-    first-valid : ima.valid c s 0 ≡ true
-    first-valid = valid-at c s 0 l h ∙ le-leb (get_or s 2 0) 88 a
-
-    pub fine-mono : c ≡ 1 → true ≡ headers_valid ima c s
-    fine-mono e = only-valid ima s l first-valid e
-
-    pub fine-both : (c ≡ 1 → ⊥) → leb (get_or s 6 0) 88 ≡ headers_valid ima c s
-    fine-both n = sym (valid-at c s 1 (omega arith) h) ∙ second-decides ima s l u first-valid n
-
-pub ruleset checking = (fine-first, fine-mono, fine-both)

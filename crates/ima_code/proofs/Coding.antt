@@ -2,19 +2,18 @@
 use mathlib.Core.Path.{◌≡◌, refl, sym, ◌∙◌, ap}
 use mathlib.Core.Bool.{Bool, true, false, cond}
 use Prim.Native.Nat.{ℕ, ◌+◌, ◌-◌, ◌*◌, ◌/◌, ◌%◌, ◌≤◌, ◌<◌}
-use native.Mathlib.Nat.{le_refl, le_of_lt}
 use native.Mathlib.Omega.{arith}
-use lib.Dec.{T, leb}
+use lib.Dec.{leb}
 use lib.IntN.{ℤ, pos, nat_abs, ◌+ℤ◌, ◌-ℤ◌}
-use lib.Signed.{lt_z, non_neg}
+use lib.Signed.{lt_z}
 use mir.Syntax.{w16, w32}
-use mir.Val.{SFits, Fits}
-use mir.Facts.{to_z-of_z}
+use mir.Val.{SFits}
 use borrow.Author.Tests.{eq-eqb, ne_eqb}
 use Rattle.little.proofs.Tests.{tests}
 use Rattle.samples.specs.Sound.{hold}
-use Rattle.samples.proofs.Signed.{Is, is_pos, is-minus, is-abs, signed, less, not-less, not_negative, back, Near, near_fits, near-narrow, near-read, near_sub, near-pos, fits-near}
+use Rattle.samples.proofs.Signed.{back}
 use Rattle.samples.proofs.Laws.{widened, wide_is}
+use Rattle.std.proofs.lemmas.Int.{ints, to_z-of_z}
 use Rattle.ima_code.specs.declared.ImaState.{ImaState}
 use Rattle.ima_code.specs.Code.{step_at, has_bit, difference_size, signed_by, difference, index_from, after_code, bit_if, left_of, bits_for, code_of, code_for, tracked, is_chased}
 use Rattle.ima_code.specs.Quality.{InRange}
@@ -71,48 +70,6 @@ bits_below s m =
     most true n = omega arith
     most false n = omega arith
 
--- and the size that they say
-module _ (s : ℕ) where
-  pub size-7 : s / 8 + s + s / 2 + s / 4 ≡ difference_size s 7
-  unfolding difference_size has_bit
-  size-7 = omega arith
-
-  pub size-6 : s / 8 + s + s / 2 ≡ difference_size s 6
-  unfolding difference_size has_bit
-  size-6 = omega arith
-
-  pub size-5 : s / 8 + s + s / 4 ≡ difference_size s 5
-  unfolding difference_size has_bit
-  size-5 = omega arith
-
-  pub size-4 : s / 8 + s ≡ difference_size s 4
-  unfolding difference_size has_bit
-  size-4 = omega arith
-
-  pub size-3 : s / 8 + s / 2 + s / 4 ≡ difference_size s 3
-  unfolding difference_size has_bit
-  size-3 = omega arith
-
-  pub size-2 : s / 8 + s / 2 ≡ difference_size s 2
-  unfolding difference_size has_bit
-  size-2 = omega arith
-
-  pub size-1 : s / 8 + s / 4 ≡ difference_size s 1
-  unfolding difference_size has_bit
-  size-1 = omega arith
-
-  pub size-0 : s / 8 ≡ difference_size s 0
-  unfolding difference_size has_bit
-  size-0 = omega arith
-
--- no proof asks for it, but a program that sets no bit where just a quarter is left is refused where it is wrong
-pub quarter-less : (s : ℕ) {r : ℕ} → s / 4 < r → s / 4 ≤ r
-quarter-less s h = le_of_lt h
-
-pub ruleset choosing = (bits-7, bits-6, bits-5, bits-4, bits-3, bits-2, bits-1, bits-0, quarter-less)
-
-pub ruleset sizes = (size-7, size-6, size-5, size-4, size-3, size-2, size-1, size-0)
-
 -- ---- a code is its sign and its lower three bits
 pub code-sign : (d : Bool) (low : ℕ) → low < 8 → has_bit (cond d 8 0 + low) 8 ≡ d
 unfolding has_bit
@@ -139,15 +96,15 @@ unfolding difference
 code-says d s low h = rw (code-sign d low h, code-size d s low h) refl
 
 -- the channel after a difference is coded
-module _ (t : ImaState) (d : Bool) (s m : ℕ) {y z : ℤ} {j : ℕ}
-    (f : SFits w16 t.last) (g : SFits w32 z) (v : SFits w16 y)
-    (a : y ≡ hold (back w32 (back w32 (back w16 t.last) +ℤ back w32 z))) where
+module _ (t : ImaState) (d : Bool) (s m : ℕ) {w y z : ℤ} {j : ℕ}
+    (f : SFits w16 t.last) (q : w ≡ back w16 t.last) (g : SFits w32 z) (v : SFits w16 y)
+    (a : y ≡ hold (back w32 (back w32 w +ℤ back w32 z))) where
   pub coded-is : (n b : ℕ) → z ≡ signed_by d n → n ≤ 65535 → n ≡ difference_size s b → b ≡ bits_for s m → b < 8
       → s ≡ step_at t.index → j ≡ index_from t.index b
       → record { last = back w16 y; index = j } ≡ after_code t (cond d 8 0 + bits_for s m)
   coded-is n b e h c k u l i =
       rw (← k)
-      (decoded-is t (cond d 8 0 + b) f v d n s g a e h (c ∙ sym (code-size d s b u)) (sym (code-sign d b u)) l
+      (decoded-is t (cond d 8 0 + b) f v d n s q g a e h (c ∙ sym (code-size d s b u)) (sym (code-sign d b u)) l
       (i ∙ ap (index_from t.index) (sym (code-low d b u))))
 
 pub code_is : (d : Bool) (s m : ℕ) {p b : ℕ} → p ≡ cond d 8 0 → b ≡ bits_for s m → p + b ≡ cond d 8 0 + bits_for s m
@@ -155,68 +112,28 @@ code_is d s m e f = rw (e, f) refl
 
 pub ruleset coding = (sum_fits, widened, coded-is, code_is, step-most, twice-fits)
 
--- ---- the difference of a sample and the last one, its sign and its magnitude
-module _ {x l : ℤ} (f : SFits w16 x) (g : SFits w16 l) where
-  abbrev gap : ℤ
-  gap = back w32 (back w16 x) -ℤ back w32 (back w16 l)
+-- ---- the code of a sample, read as u, where w is the last one
+below-none : (x y : ℤ) → lt_z (x -ℤ y) (pos 0) ≡ lt_z x y
+below-none x y = grind (arith, ints)
 
-  plain-gap : gap ≡ x -ℤ l
-  plain-gap = rw (wide_is f, wide_is g) refl
+module _ (t : ImaState) (x : ℤ) {u w : ℤ} {s : ℕ} (m : ℕ) (e : s ≡ step_at t.index) (f : SFits w16 x) (g : SFits w16 t.last)
+    (a : u ≡ back w16 x) (b : w ≡ back w16 t.last) (k : m ≡ nat_abs (back w32 u -ℤ back w32 w)) where
+  new_is : back w32 u ≡ x
+  new_is = rw a (wide_is f)
 
-  near-gap : Near gap 65536
-  near-gap = rw plain-gap (near_sub (fits-near f) (fits-near g))
+  last_is : back w32 w ≡ t.last
+  last_is = rw b (wide_is g)
 
-  pub gap-fits : SFits w32 gap
-  gap-fits = near_fits near-gap tt
-
-  gap_is : back w32 gap ≡ x -ℤ l
-  gap_is = to_z-of_z gap-fits ∙ plain-gap
-
-  near-flipped : Near (pos 0 -ℤ back w32 gap) 65536
-  near-flipped = near_sub (near-pos (le_refl 0)) (near-read gap-fits near-gap)
-
-  pub flipped-fits : SFits w32 (pos 0 -ℤ back w32 gap)
-  flipped-fits = near_fits near-flipped tt
-
-  pub flipped-narrow : Fits w32 (nat_abs (back w32 (pos 0 -ℤ back w32 gap)))
-  flipped-narrow = rw (to_z-of_z flipped-fits) (near-narrow near-flipped tt)
-
-  pub gap-narrow : Fits w32 (nat_abs (back w32 gap))
-  gap-narrow = rw (to_z-of_z gap-fits) (near-narrow near-gap tt)
-
-  pub flipped_above : lt_z (back w32 gap) (pos 0) ≡ true → T (non_neg (back w32 (pos 0 -ℤ back w32 gap)))
-  flipped_above e =
-      let p = signed w32 gap-fits in
-      let q : Is (back w32 gap) p.a p.b = rw (to_z-of_z gap-fits) p.is in
-      rw (to_z-of_z flipped-fits) (not_negative (is-minus (is_pos 0) q) (omega (arith, less q (is_pos 0) e)))
-
-  pub gap-above : lt_z (back w32 gap) (pos 0) ≡ false → T (non_neg (back w32 gap))
-  gap-above e =
-      let p = signed w32 gap-fits in
-      let q : Is (back w32 gap) p.a p.b = rw (to_z-of_z gap-fits) p.is in
-      not_negative q (omega (arith, not-less q (is_pos 0) e))
-
-  pub flipped-is : nat_abs (back w32 (pos 0 -ℤ back w32 gap)) ≡ nat_abs (x -ℤ l)
-  flipped-is =
-      let p = signed w32 gap-fits in
-      let q : Is (x -ℤ l) p.a p.b = rw (← plain-gap) p.is in
-      rw (to_z-of_z flipped-fits, gap_is) (is-abs (is-minus (is_pos 0) q) ∙ omega (arith, is-abs q))
-
-  pub gap-abs : nat_abs (back w32 gap) ≡ nat_abs (x -ℤ l)
-  gap-abs = ap nat_abs gap_is
-
--- ---- the code of a sample whose difference has the magnitude m
-module _ (t : ImaState) (x : ℤ) {s : ℕ} (m : ℕ) (e : s ≡ step_at t.index) (k : m ≡ nat_abs (x -ℤ t.last)) where
   pub sample-chased : {b : Bool} → b ≡ leb (2 * s) m → b ≡ is_chased t x
   unfolding is_chased
-  sample-chased h = h ∙ rw (e, k) refl
+  sample-chased h = h ∙ rw (e, k, new_is, last_is) refl
 
-  module _ (d : Bool) (f : SFits w16 x) (g : SFits w16 t.last) (n : lt_z (back w32 (gap f g)) (pos 0) ≡ d) where
+  module _ (d : Bool) (n : lt_z (back w32 u) (back w32 w) ≡ d) where
     code-of : cond d 8 0 + bits_for s m ≡ code_for t x
     unfolding code_for code_of
     code-of =
-        let a = rw (gap_is f g) at n in
-        rw (e, k, a) refl
+        let p : lt_z x t.last ≡ d = rw (new_is, last_is) at n in
+        rw (e, k, new_is, last_is, below-none x t.last, p) refl
 
     pub sample-code : {c : ℕ} → c ≡ cond d 8 0 + bits_for s m → c ≡ code_for t x
     sample-code h = h ∙ code-of
@@ -225,9 +142,14 @@ module _ (t : ImaState) (x : ℤ) {s : ℕ} (m : ℕ) (e : s ≡ step_at t.index
     unfolding tracked
     sample-state h = h ∙ ap (after_code t) code-of
 
-pub ruleset measuring = (widened, gap-fits, flipped-fits, flipped_above, flipped-narrow, gap-above, gap-narrow)
+-- the magnitude of a difference that is below 0
+pub flipped : (y z : ℤ) → SFits w32 (y -ℤ z) → nat_abs (back w32 (y -ℤ z)) ≡ nat_abs (z -ℤ y)
+flipped y z f = rw (to_z-of_z w32 (y -ℤ z) f) (abs-flipped y z)
+  where
+    abs-flipped : (y z : ℤ) → nat_abs (y -ℤ z) ≡ nat_abs (z -ℤ y)
+    abs-flipped y z = omega (arith, ints)
 
-pub ruleset encoding = (flipped-is, gap-abs, sample-code, sample-chased, sample-state)
+pub ruleset encoding = (sample-code, sample-chased, sample-state)
 
 -- ---- whatever the sample
 module _ (t : ImaState) (x : ℤ) where

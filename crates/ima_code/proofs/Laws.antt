@@ -1,52 +1,22 @@
 -- What a code does to a channel, in the words of the code, and that it keeps the channel in range. Assumes nothing.
 use mathlib.Core.Path.{◌≡◌, refl, ◌∙◌, ap}
 use mathlib.Core.Bool.{Bool, true, false, cond}
-use mathlib.Core.List.{List}
 use Prim.Native.Nat.{ℕ, zero, suc, ◌+◌, ◌-◌, ◌*◌, ◌/◌, ◌%◌, ◌≤◌, ◌<◌, min}
-use native.Mathlib.Nat.{zero-mul, one-mul, mul-le-mul_right}
 use native.Mathlib.Omega.{arith}
 use lib.Dec.{ltb, eqb}
 use lib.IntN.{ℤ, pos, negsuc, nat_abs, ◌+ℤ◌, ◌-ℤ◌}
 use lib.ListN.{get_or}
-use mir.Syntax.{w16, w32, w64}
-use mir.Val.{SFits, Fits, to_z}
-use mir.Facts.{to_z-of_z, to_z_pos}
-use borrow.Author.Tests.{lt-ltb, le-ltb}
+use mir.Syntax.{w16, w32}
+use mir.Val.{SFits}
+use mir.Facts.{to_z-of_z}
 use Rattle.samples.specs.Sound.{hold}
-use Rattle.samples.proofs.Signed.{Is, by-ltb, is_pos, is-negsuc, is-add, is-minus, is-neg, is-shift, is-unique, is-abs, is_read, fits, back, Near, near_fits, near_add, near-pos, fits-near, cast-less}
-use Rattle.samples.proofs.Laws.{widened, wide_is, raised-fits, raised-above, raised, hold-is, hold-fits}
+use Rattle.samples.proofs.Signed.{Is, by-ltb, is_pos, is-negsuc, is-add, is-minus, is-neg, is-shift, is-unique, is-abs, back, Near, near_fits, near_add, near-pos, fits-near}
+use Rattle.samples.proofs.Laws.{wide_is, raised, hold-is, hold-fits}
 use Rattle.ima_code.specs.declared.ImaState.{ImaState}
 use Rattle.ima_code.specs.Code.{step_at, has_bit, difference_size, signed_by, difference, changes, held_index, index_from, held_from, held_indices, after_code}
 use Rattle.ima_code.specs.Quality.{InRange}
 
--- ---- the size of a difference: a bit is 0 or 1, and times its worth is its worth or nothing
-bit_is : (b v : ℕ) → b ≤ 1 → b * v ≡ cond (eqb b 1) v 0
-bit_is zero v h = zero-mul v
-bit_is (suc zero) v h = one-mul v
-bit_is (suc (suc b)) v h = absurd (omega arith)
-
-module _ (b v : ℕ) (h : b ≤ 1) where
-  pub bit-most : b * v ≤ v
-  bit-most = omega (arith, mul-le-mul_right v h, one-mul v)
-
-  pub bit-fits : v ≤ 32767 → Fits w32 (b * v)
-  bit-fits g = record { fits = omega (arith, bit-most) }
-
-pub ruleset bits = (bit-most, bit-fits)
-
-pub size_is : (s low : ℕ) {a b c : ℕ} → low < 8 → a ≡ cond (eqb (low / 4) 1) s 0 → b ≡ low / 2 % 2 * (s / 2) → c ≡ low % 2 * (s / 4)
-    → s / 8 + a + b + c ≡ difference_size s low
-unfolding difference_size has_bit
-size_is s low h d e f =
-    let g : low / 4 % 2 ≡ low / 4 = omega arith in
-    let i : low / 1 ≡ low = omega arith in
-    let k : low / 2 % 2 ≤ 1 = omega arith in
-    let l : low % 2 ≤ 1 = omega arith in
-    simp (d, e, f, g, i, bit_is (low / 2 % 2) (s / 2) k, bit_is (low % 2) (s / 4) l)
-
-pub ruleset sizing = (size_is)
-
--- the lower three bits say the size
+-- ---- the lower three bits say the size of a difference
 pub size_low : (s k : ℕ) {n : ℕ} → n ≡ difference_size s (k % 8) → n ≡ difference_size s k
 unfolding difference_size has_bit
 size_low s k h =
@@ -54,24 +24,6 @@ size_low s k h =
     let b : k % 8 / 2 % 2 ≡ k / 2 % 2 = omega arith in
     let c : k % 8 / 1 % 2 ≡ k / 1 % 2 = omega arith in
     h ∙ simp (a, b, c)
-
--- ---- a size as a difference
-module _ {n : ℕ} (h : n ≤ 65535) where
-  negated : Is (pos 0 -ℤ to_z w32 n) 0 n
-  negated = is-shift 0 n (is-minus (is_pos 0) (is_read w32 {n = n} (omega arith))) (omega arith)
-
-  pub negated_fits : SFits w32 (pos 0 -ℤ to_z w32 n)
-  negated_fits = fits w32 negated (omega arith) (omega arith)
-
-  pub toward-down : {d : Bool} → d ≡ true → back w32 (pos 0 -ℤ to_z w32 n) ≡ signed_by d n
-  unfolding signed_by
-  toward-down e = to_z-of_z negated_fits ∙ is-unique negated (is-neg (is_pos n)) ∙ simp e
-
-  pub toward-up : {d : Bool} → d ≡ false → to_z w32 n ≡ signed_by d n
-  unfolding signed_by
-  toward-up e = to_z_pos w32 {n = n} (omega arith) ∙ simp e
-
-pub ruleset signing = (negated_fits, toward-down, toward-up)
 
 -- ---- the index: the change is 1 downward for the lower four, and 2 × low - 6 upward for the others
 down_by : (k : ℕ) → k < 4 → get_or changes k (pos 0) ≡ negsuc 0
@@ -92,13 +44,6 @@ held-index : {z : ℤ} {a b : ℕ} → Is z a b → held_index z ≡ min (a - b)
 held-index {z = pos n} h = omega arith
 held-index {z = negsuc n} h = omega arith
 
-module _ (k : ℕ) where
-  pub rise-none : k < 4 → 0 ≡ cond (ltb k 4) 0 (2 * k - 5)
-  rise-none h = simp (lt-ltb k 4 h)
-
-  pub rise-some : 4 ≤ k → 2 * k - 5 ≡ cond (ltb k 4) 0 (2 * k - 5)
-  rise-some g = simp (le-ltb k 4 g)
-
 module _ (i k : ℕ) where
   pub index-down : k < 4 → index_from i k ≡ min (i - 1) 88
   unfolding index_from
@@ -112,18 +57,11 @@ module _ (i k : ℕ) where
       (held-index (is-add (is_pos i) (is_pos (2 * (k - 4) + 2))) ∙ omega arith)
 
   -- one more than the move is added, and one taken away where there is one
-  index-risen : (r : ℕ) → k < 8 → r ≡ cond (ltb k 4) 0 (2 * k - 5) → index_from i k ≡ min (i + r - 1) 88
-  index-risen r h =
+  pub index_risen : (r : ℕ) → k < 8 → r ≡ cond (ltb k 4) 0 (2 * k - 5) → index_from i k ≡ min (i + r - 1) 88
+  index_risen r h =
       by-ltb k 4 (λ c. r ≡ cond c 0 (2 * k - 5) → index_from i k ≡ min (i + r - 1) 88)
       (λ g e. omega (arith, index-down g))
       (λ g e. omega (arith, index-up g h))
-
-  module _ (h : k < 8) (r n : ℕ) (e : r ≡ cond (ltb k 4) 0 (2 * k - 5)) (d : n ≡ i + r - 1) where
-    pub moved-top : 88 < n → 88 ≡ index_from i k
-    moved-top l = omega (arith, index-risen r h e)
-
-    pub moved-kept : n ≤ 88 → n ≡ index_from i k
-    moved-kept l = omega (arith, index-risen r h e)
 
 -- the same by the table
 held_at : (i n k : ℕ) → k < n → get_or (held_from i n) k 0 ≡ min (i + k - 1) 88
@@ -131,18 +69,11 @@ held_at i zero k h = absurd (omega arith)
 held_at i (suc n) zero h = omega arith
 held_at i (suc n) (suc k) h = held_at (suc i) n k (omega arith) ∙ omega arith
 
-module _ {t : List ℕ} (e : t ≡ held_indices) (i k r : ℕ) (h : k < 8) (g : i < 89) (d : r ≡ cond (ltb k 4) 0 (2 * k - 5)) (m : r ≤ 9) where
-  pub moved_by : get_or t (i + r) 0 ≡ index_from i k
-  moved_by =
-      ap (λ (l : List ℕ). get_or l (i + r) 0) e ∙ held_at 0 98 (i + r) (omega arith) ∙ omega (arith, index-risen i k r h d)
+pub held_is : (n : ℕ) → n < 98 → get_or held_indices n 0 ≡ min (n - 1) 88
+held_is n h = held_at 0 98 n h ∙ omega arith
 
-  pub moved-below : get_or t (i + r) 0 < 89
-  moved-below = omega (arith, moved_by, index-risen i k r h d)
-
-  pub moved-fits : Fits w64 (get_or t (i + r) 0)
-  moved-fits = record { fits = omega (arith, moved-below) }
-
-pub ruleset moving = (rise-none, rise-some, moved-top, moved-kept, moved_by, moved-below, moved-fits)
+pub held_below : (n : ℕ) → n < 98 → get_or held_indices n 0 < 89
+held_below n h = omega (arith, held_is n h)
 
 pub index_below : (i k : ℕ) → index_from i k < 89
 unfolding index_from
@@ -152,40 +83,7 @@ index_below i k = below (pos i +ℤ get_or changes k (pos 0))
     below (pos n) = omega arith
     below (negsuc n) = omega arith
 
--- ---- a sample as a number from 0 on, and back
-module _ {z : ℤ} (f : SFits w16 z) where
-  up : Is (back w32 (back w16 z) +ℤ pos 32768) (raised f).u 0
-  up = rw (wide_is f) (is-shift (raised f).u 0 (is-add (raised f).is (is_pos 32768)) (omega arith))
-
-  pub up_fits : Fits w16 (nat_abs (back w32 (back w32 (back w16 z) +ℤ pos 32768)))
-  up_fits = rw (to_z-of_z (raised-fits f 32768 tt)) (record { fits = omega (arith, is-abs up, (raised f).below) })
-
-  pub up_is : nat_abs (back w32 (back w32 (back w16 z) +ℤ pos 32768)) ≡ nat_abs (z +ℤ pos 32768)
-  up_is = rw (to_z-of_z (raised-fits f 32768 tt), wide_is f) refl
-
-pub ruleset raising = (widened, raised-fits, raised-above, up_fits, up_is)
-
-module _ {n : ℕ} (h : Fits w16 n) where
-  down : Is (to_z w32 n -ℤ pos 32768) n 32768
-  down = is-shift n 32768 (is-minus (is_read w32 {n = n} (omega (arith, h.fits))) (is_pos 32768)) (omega arith)
-
-  pub down-wide : SFits w32 (to_z w32 n -ℤ pos 32768)
-  down-wide = cast-less w32 w16 32768 h tt tt
-
-  pub down_fits : SFits w16 (back w32 (to_z w32 n -ℤ pos 32768))
-  down_fits = rw (to_z-of_z down-wide) (fits w16 down (omega (arith, h.fits)) (omega arith))
-
-  pub down_is : back w16 (back w32 (to_z w32 n -ℤ pos 32768)) ≡ pos n -ℤ pos 32768
-  down_is =
-      to_z-of_z down_fits ∙ to_z-of_z down-wide
-      ∙ is-unique down (is-shift n 32768 (is-minus (is_pos n) (is_pos 32768)) (omega arith))
-
-pub ruleset lowering = (down-wide, down_fits, down_is)
-
--- moved by a size and held: on the number from 0 on it is truncated minus, upward in the mirror
-pub mirrored-up : {d : Bool} (n : ℕ) → d ≡ false → 65535 - n ≡ cond d n (65535 - n)
-mirrored-up n e = simp e
-
+-- ---- a sample moved by a size and held: on the number from 0 on it is truncated minus, upward in the mirror
 module _ {z : ℤ} (f : SFits w16 z) (n u v w x : ℕ) (a : u ≡ nat_abs (back w16 z +ℤ pos 32768)) where
   raised_is : u ≡ (raised f).u
   raised_is = a ∙ rw (to_z-of_z f) (omega (arith, is-abs (is-add (raised f).is (is_pos 32768))))
@@ -204,7 +102,7 @@ module _ {z : ℤ} (f : SFits w16 z) (n u v w x : ℕ) (a : u ≡ nat_abs (back 
       to_z-of_z g ∙ h
       ∙ is-unique (is-shift x 32768 (is-minus (is_pos x) (is_pos 32768)) (omega arith)) (moved-is d b c e)
 
-pub ruleset mirroring = (mirrored-up, moved-held)
+pub ruleset mirroring = (moved-held)
 
 -- ---- a difference added to the last sample
 near-signed : (d : Bool) {n : ℕ} → n ≤ 65535 → Near (signed_by d n) 65535
@@ -212,14 +110,14 @@ unfolding signed_by
 near-signed true {n} h = record { near = omega (arith, is-abs (is-neg (is_pos n))) }
 near-signed false h = near-pos h
 
-module _ {x z : ℤ} (f : SFits w16 x) (g : SFits w32 z) (d : Bool) (n : ℕ) (e : z ≡ signed_by d n) (h : n ≤ 65535) where
-  plain-sum : back w32 (back w16 x) +ℤ back w32 z ≡ x +ℤ signed_by d n
-  plain-sum = rw (wide_is f, to_z-of_z g, e) refl
+module _ {x w z : ℤ} (f : SFits w16 x) (q : w ≡ back w16 x) (g : SFits w32 z) (d : Bool) (n : ℕ) (e : z ≡ signed_by d n) (h : n ≤ 65535) where
+  plain-sum : back w32 w +ℤ back w32 z ≡ x +ℤ signed_by d n
+  plain-sum = rw (q, wide_is f, to_z-of_z g, e) refl
 
-  pub sum_fits : SFits w32 (back w32 (back w16 x) +ℤ back w32 z)
+  pub sum_fits : SFits w32 (back w32 w +ℤ back w32 z)
   sum_fits = rw plain-sum (near_fits (near_add (fits-near f) (near-signed d h)) tt)
 
-  pub sum_is : back w32 (back w32 (back w16 x) +ℤ back w32 z) ≡ x +ℤ signed_by d n
+  pub sum_is : back w32 (back w32 w +ℤ back w32 z) ≡ x +ℤ signed_by d n
   sum_is = to_z-of_z sum_fits ∙ plain-sum
 
 -- the channel after it
@@ -237,11 +135,11 @@ module _ (t : ImaState) (k : ℕ) {y : ℤ} {j : ℕ} (f : SFits w16 t.last) (v 
       → record { last = back w16 y; index = j } ≡ after_code t k
   decoded-by a = moved_to (a ∙ ap (λ (x : ℤ). hold (x +ℤ signed_by d n)) (to_z-of_z f))
 
-  pub decoded-is : {z : ℤ} → SFits w32 z → y ≡ hold (back w32 (back w32 (back w16 t.last) +ℤ back w32 z))
+  pub decoded-is : {w z : ℤ} → w ≡ back w16 t.last → SFits w32 z → y ≡ hold (back w32 (back w32 w +ℤ back w32 z))
       → z ≡ signed_by d n → n ≤ 65535 → n ≡ difference_size s k
       → d ≡ has_bit k 8 → s ≡ step_at t.index → j ≡ index_from t.index (k % 8)
       → record { last = back w16 y; index = j } ≡ after_code t k
-  decoded-is g a e h = moved_to (a ∙ ap hold (sum_is f g d n e h))
+  decoded-is q g a e h = moved_to (a ∙ ap hold (sum_is f q g d n e h))
 
 pub has-sign : (k : ℕ) → eqb (k / 8 % 2) 1 ≡ has_bit k 8
 unfolding has_bit

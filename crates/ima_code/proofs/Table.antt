@@ -1,5 +1,5 @@
 -- The table of steps: one test that is computed over all 89 entries, and the rule that it gives at each. Assumes nothing.
-use mathlib.Core.Path.{◌≡◌, ap}
+use mathlib.Core.Path.{◌≡◌}
 use mathlib.Core.Bool.{Bool, true, ◌&&◌}
 use mathlib.Core.List.{List, [], ◌∷◌}
 use Prim.Native.Nat.{ℕ, zero, suc, ◌+◌, ◌*◌, ◌≤◌, ◌<◌}
@@ -38,25 +38,14 @@ pub step_range : {i : ℕ} → i < 89 → (7 + i ≤ step_at i) × (step_at i �
 unfolding step_at
 step_range {i} h = rising-at 7 32767 steps tt i h
 
+module _ {i : ℕ} (h : i < 89) where
+  pub step_most : step_at i ≤ 32767
+  step_most = omega (arith, step_range h)
+
 -- a number that is the step of an index
 module _ {s : ℕ} (i : ℕ) (e : s ≡ step_at i) (h : i < 89) where
   pub step-most : s ≤ 32767
-  step-most = omega (arith, step_range h)
+  step-most = omega (arith, step_most h)
 
   pub twice-fits : Fits w32 (2 * s)
   twice-fits = record { fits = omega (arith, step-most) }
-
--- what is read of a table that is the steps
-module _ {t : List ℕ} (e : t ≡ steps) (i : ℕ) where
-  pub read_is : get_or t i 0 ≡ step_at i
-  unfolding step_at
-  read_is = ap (λ (l : List ℕ). get_or l i 0) e
-
-  module _ (h : i < 89) where
-    pub read-most : get_or t i 0 ≤ 32767
-    read-most = step-most i read_is h
-
-    pub read_fits : Fits w32 (get_or t i 0)
-    read_fits = record { fits = omega (arith, read-most) }
-
-pub ruleset reading = (read_is, read-most, read_fits)

@@ -1,5 +1,5 @@
 -- One IMA code: its difference, the channel after it, and the code of a sample. Assumes nothing.
-use Rattle.std.specs.Prelude.{ℕ, zero, suc, ◌+◌, ◌-◌, ◌*◌, ◌/◌, ◌%◌, min, ◌≡◌, Bool, cond, List, [], ◌∷◌, leb, eqb, ℤ, pos, negsuc, neg_ℤ, nat_abs, ◌+ℤ◌, ◌-ℤ◌, get_or}
+use Rattle.std.specs.Prelude.{ℕ, zero, suc, ◌+◌, ◌-◌, ◌*◌, ◌/◌, ◌%◌, min, Bool, cond, List, [], ◌∷◌, leb, eqb, ℤ, pos, negsuc, neg_ℤ, nat_abs, ◌+ℤ◌, ◌-ℤ◌, get_or}
 use Rattle.std.specs.Int.Signed.{lt_z}
 use Rattle.samples.specs.Sound.{hold}
 use Rattle.ima_code.specs.declared.ImaState.{ImaState}
@@ -14,10 +14,6 @@ steps =
     ∷ 544 ∷ 598 ∷ 658 ∷ 724 ∷ 796 ∷ 876 ∷ 963 ∷ 1060 ∷ 1166 ∷ 1282 ∷ 1411 ∷ 1552 ∷ 1707 ∷ 1878 ∷ 2066 ∷ 2272 ∷ 2499
     ∷ 2749 ∷ 3024 ∷ 3327 ∷ 3660 ∷ 4026 ∷ 4428 ∷ 4871 ∷ 5358 ∷ 5894 ∷ 6484 ∷ 7132 ∷ 7845 ∷ 8630 ∷ 9493 ∷ 10442 ∷ 11487
     ∷ 12635 ∷ 13899 ∷ 15289 ∷ 16818 ∷ 18500 ∷ 20350 ∷ 22385 ∷ 24623 ∷ 27086 ∷ 29794 ∷ 32767 ∷ []
-
--- what a table of the steps holds that code is lent
-abbrev pub IsSteps : List ℕ → Type 0
-IsSteps table = table ≡ steps
 
 unfoldable pub step_at : ℕ → ℕ
 step_at i = get_or steps i 0
@@ -59,10 +55,6 @@ held_from i (suc n) = min (i - 1) 88 ∷ held_from (suc i) n
 -- so that an index and one more than its move lead to the index after it
 abbrev pub held_indices : List ℕ
 held_indices = held_from 0 98
-
--- what a table of them holds
-abbrev pub IsHeld : List ℕ → Type 0
-IsHeld table = table ≡ held_indices
 
 -- a channel after code k: the difference added to the last sample and held, and the index moved
 unfoldable pub after_code : ImaState → ℕ → ImaState

@@ -256,24 +256,6 @@ module _ {s : List ℤ} {stride last at n to : ℕ} (p : Channel) {out₀ : List
 
 pub ruleset real-coding = (real-begins, real-first, real-next, real-after, real-put)
 
--- ---- two samples in one call
-module _ (t : ImaState) {y z : ℤ} {ta : ImaState} (fy : SFits w16 y) (fz : SFits w16 z)
-    (es : ta ≡ tracked t (back w16 y)) where
-  pub two-byte : {k l : ℕ} → k ≡ code_for t (back w16 y) → l ≡ code_for ta (back w16 z)
-      → k + 16 * l ≡ code_for t y + 16 * code_for (tracked t y) z
-  two-byte ek el = rw (ek, el, es, to_z-of_z fy, to_z-of_z fz) refl
-
-  pub two-second : {c : Bool} → c ≡ is_chased ta (back w16 z) → c ≡ is_chased (tracked t y) z
-  two-second e = rw (es, to_z-of_z fy, to_z-of_z fz) at e
-
-  pub two-state : {tb : ImaState} → tb ≡ tracked ta (back w16 z) → tb ≡ tracked (tracked t y) z
-  two-state e = rw (es, to_z-of_z fy, to_z-of_z fz) at e
-
-pub two-first : (t : ImaState) {y : ℤ} {c : Bool} → SFits w16 y → c ≡ is_chased t (back w16 y) → c ≡ is_chased t y
-two-first t fy e = rw (to_z-of_z fy) at e
-
-pub ruleset two-coding = (two-byte, two-first, two-second, two-state)
-
 -- ---- a turn where the last sample is repeated past the sound
 module _ {s : List ℤ} {stride last left at n to : ℕ} {t₀ : ImaState} {chased₀ : ℕ} {out₀ : List ℕ}
     {t : ImaState} {chased x i : ℕ} {out : List ℕ}

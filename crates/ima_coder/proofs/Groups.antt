@@ -153,12 +153,13 @@ module _ {s : List ℤ} {left at groups to : ℕ} {from : Channels} {out₀ : Li
       × (r.left.chased ≤ p.left.chased + 8)
       × (r.right.chased ≤ p.right.chased + 8)
       × Put out y (a ++ b) f
-      → m ≡ there - 8
-      → Groups s left at groups to from out₀ r m (x + 16) (y + 8) (i + 1) f
-  groups-next h (el, er, gl, gr, fl, fr, o) em =
+      → m ≡ there - 8 → {j k : ℕ} → j ≡ x + 16 → k ≡ y + 8
+      → Groups s left at groups to from out₀ r m j k (i + 1) f
+  groups-next h (el, er, gl, gr, fl, fr, o) em ej ek =
       let e : x + 16 + 1 ≡ x + 1 + 16 = omega arith in
       let k : length (a ++ b) ≡ 8 = length-append a b ∙ omega (arith, four-left, four-right) in
-      record {
+      rw (ej, ek)
+      (record {
         upto = omega arith;
         many = w.many;
         long = w.long;
@@ -172,7 +173,7 @@ module _ {s : List ℤ} {left at groups to : ℕ} {from : Channels} {out₀ : Li
         filled =
             filled-piece w.filled o (groups-split h el er) (omega (arith, k))
             (omega (arith, w.room, w.here, w.filled.long));
-      }
+      })
 
   module _ (h : groups ≤ i) where
     pub groups-left : p.left ≡ channel_after from.left left (lefts s at (8 * groups))

@@ -8,11 +8,11 @@
 ghost use Rattle.std.specs.Prelude.{◌≡◌, cond, ◌&&◌, [], ◌∷◌, ◌++◌, ◌+◌, ◌-◌, ◌*◌, ◌/◌, ◌≤◌, ◌<◌, min, length};
 ghost use Rattle.little.specs.Writing.{Put};
 ghost use Rattle.lists.specs.Turns.{in_turn};
-ghost use Rattle.ima_code.specs.Code.{IsSteps, code_for, tracked, is_chased};
+ghost use Rattle.ima_code.specs.Code.{code_for, tracked, is_chased};
 ghost use Rattle.ima_code.specs.Machine.{codes_of};
 ghost use Rattle.ima_coder.specs.Part.{samples_of, packed, block_head, coded_part, channel_after, opened_with, channel_after_block, monos_from, lefts_from, rights_from, RanOver, RanBlock, BothRan};
 
-use ima_code::{ImaState, Steps, encode_code};
+use ima_code::{ImaState, encode_code};
 
 // A channel while it is coded: its state, and how many of its samples were chased.
 #[derive(Clone, Copy)]
@@ -52,87 +52,56 @@ fn counted(there: bool, chased: bool) -> u32
     ensures answer { result ≡ cond (there && chased) 1 0 }
     ensures bound { result ≤ 1 }
 {
-    if there {
-        if chased {
-            return 1;
-        }
-    }
-    0
+    u32::from(there && chased)
 }
 
-// The smaller of two numbers.
-fn least(a: usize, b: usize) -> usize
-    ensures answer { result ≡ min a b }
-{
-    if a <= b {
-        return a;
-    }
-    b
-}
-
-// A number less another, not below 0.
-fn less(a: usize, b: usize) -> usize
-    ensures answer { result ≡ a - b }
-{
-    if a <= b {
-        return 0;
-    }
-    a - b
-}
-
-// Codes n bytes of a channel, two samples to each; all of them are there.
+// Codes n bytes of a channel, two samples to each; all of them are there. It stays beside `filled_bytes`, without whose
+// tests it codes all blocks but the last.
 fn real_bytes(
     sound: &[i16],
     which: Samples,
     n: usize,
-    table: &Steps,
     from: Channel,
     out: &mut [u8],
     to: usize,
 ) -> Channel
     requires { (which.last < length sound.now) × (which.stride * (2 * n) ≤ which.last + which.stride - which.at)
         × (which.at ≤ 4294967296) × (1 ≤ which.stride) × (which.stride ≤ 2) × (n ≤ 4096) × (to + n ≤ length out.old)
-        × (from.state.index < 89) × (from.chased + 2 * n < 4294967296) × IsSteps table.now }
+        × (from.state.index < 89) × (from.chased + 2 * n < 4294967296) }
     ensures ran { RanOver from (2 * n) (2 * n) (samples_of sound.now which (2 * n)) result
         out.old to out.new }
 {
     let mut state = from.state;
     let mut chased = from.chased;
     let mut x = which.at;
-    let mut i = 0;
-    while i < n {
+    for i in 0..n {
         let stride = which.stride;
-        let a = encode_code(state, sound[x], table);
-        let b = encode_code(a.state, sound[x + stride], table);
+        let a = encode_code(state, sound[x]);
+        let b = encode_code(a.state, sound[x + stride]);
         out[to + i] = (a.code + 16 * b.code) as u8;
         chased = chased + counted(true, a.chased) + counted(true, b.chased);
         state = b.state;
         x += stride + stride;
-        i += 1;
     }
-    Channel {
-        state: state,
-        chased: chased,
-    }
+    Channel { state, chased }
 }
 
 // Codes two samples, the second from the state after the first.
-fn two_samples(state: ImaState, first: i16, second: i16, table: &Steps) -> Two
-    requires { (state.index < 89) × IsSteps table.now }
+fn two_samples(state: ImaState, first: i16, second: i16) -> Two
+    requires { (state.index < 89) }
     ensures coded { (result.byte ≡ code_for state first + 16 * code_for (tracked state first) second)
         × (result.first ≡ is_chased state first)
         × (result.second ≡ is_chased (tracked state first) second)
         × (result.state ≡ tracked (tracked state first) second)
         × (result.state.index < 89) }
 {
-    let a = encode_code(state, first, table);
-    let b = encode_code(a.state, second, table);
-    let after = b.state;
+    let a = encode_code(state, first);
+    let b = encode_code(a.state, second);
     Two {
         byte: (a.code + 16 * b.code) as u8,
         first: a.chased,
         second: b.chased,
-        state: after,
+        state: b.state,
     }
 }
 
@@ -142,14 +111,13 @@ fn filled_bytes(
     sound: &[i16],
     which: Samples,
     n: usize,
-    table: &Steps,
     from: Channel,
     out: &mut [u8],
     to: usize,
 ) -> Channel
     requires { (which.last < length sound.now) × (which.at ≤ 4294967296) × (1 ≤ which.stride) × (which.stride ≤ 2)
         × (n ≤ 4096) × (to + n ≤ length out.old)
-        × (from.state.index < 89) × (from.chased + 2 * n < 4294967296) × IsSteps table.now }
+        × (from.state.index < 89) × (from.chased + 2 * n < 4294967296) }
     ensures ran { RanOver from (2 * n) which.left (samples_of sound.now which (2 * n)) result
         out.old to out.new }
 {
@@ -159,21 +127,16 @@ fn filled_bytes(
     let mut state = from.state;
     let mut chased = from.chased;
     let mut x = which.at;
-    let mut i = 0;
-    while i < n {
-        let y = least(x, last);
-        let z = least(x + stride, last);
-        let two = two_samples(state, sound[y], sound[z], table);
+    for i in 0..n {
+        let y = x.min(last);
+        let z = (x + stride).min(last);
+        let two = two_samples(state, sound[y], sound[z]);
         out[to + i] = two.byte;
         chased = chased + counted(2 * i < left, two.first) + counted(2 * i + 1 < left, two.second);
         state = two.state;
         x += stride + stride;
-        i += 1;
     }
-    Channel {
-        state: state,
-        chased: chased,
-    }
+    Channel { state, chased }
 }
 
 // Codes n bytes of a channel.
@@ -181,21 +144,20 @@ fn channel_bytes(
     sound: &[i16],
     which: Samples,
     n: usize,
-    table: &Steps,
     from: Channel,
     out: &mut [u8],
     to: usize,
 ) -> Channel
     requires { (which.last < length sound.now) × (which.stride * which.left ≤ which.last + which.stride - which.at)
         × (which.at ≤ 4294967296) × (1 ≤ which.stride) × (which.stride ≤ 2) × (n ≤ 4096) × (to + n ≤ length out.old)
-        × (from.state.index < 89) × (from.chased + 2 * n < 4294967296) × IsSteps table.now }
+        × (from.state.index < 89) × (from.chased + 2 * n < 4294967296) }
     ensures ran { RanOver from (2 * n) which.left (samples_of sound.now which (2 * n)) result
         out.old to out.new }
 {
-    if 2 * n <= which.left {
-        return real_bytes(sound, which, n, table, from, out, to);
+    if which.left < 2 * n {
+        return filled_bytes(sound, which, n, from, out, to);
     }
-    filled_bytes(sound, which, n, table, from, out, to)
+    real_bytes(sound, which, n, from, out, to)
 }
 
 // Opens a block of a channel with a sample: puts its header.
@@ -213,9 +175,9 @@ fn open(sample: i16, from: Channel, out: &mut [u8], to: usize) -> Channel
     Channel {
         state: ImaState {
             last: sample,
-            index: index,
+            index,
         },
-        chased: from.chased,
+        ..from
     }
 }
 
@@ -231,9 +193,9 @@ fn open_both(left: i16, right: i16, from: Channels, out: &mut [u8], to: usize) -
         × Put out.old to (block_head left from.left.state.index ++ block_head right from.right.state.index)
         out.new }
 {
-    let l = open(left, from.left, out, to);
-    let r = open(right, from.right, out, to + 4);
-    Channels { left: l, right: r }
+    let left = open(left, from.left, out, to);
+    let right = open(right, from.right, out, to + 4);
+    Channels { left, right }
 }
 
 // Codes the block of a mono sound that opens at a frame.
@@ -241,14 +203,13 @@ pub fn mono_block(
     sound: &[i16],
     frame: usize,
     groups: usize,
-    table: &Steps,
     from: Channel,
     out: &mut [u8],
     to: usize,
 ) -> Channel
     requires { (frame < length sound.now) × (length sound.now ≤ 536870912) × (groups ≤ 1023)
         × (to + 4 * groups + 4 ≤ length out.old) × (from.state.index < 89)
-        × (from.chased + 8 * groups < 4294967296) × IsSteps table.now }
+        × (from.chased + 8 * groups < 4294967296) }
     ensures ran { RanBlock from (8 * groups) (length sound.now - frame)
         (monos_from sound.now frame (8 * groups + 1)) result out.old to out.new }
 {
@@ -260,7 +221,7 @@ pub fn mono_block(
         last: n - 1,
         left: n - (frame + 1),
     };
-    channel_bytes(sound, codes, 4 * groups, table, channel, out, to + 4)
+    channel_bytes(sound, codes, 4 * groups, channel, out, to + 4)
 }
 
 // Codes eight frames of both channels: four bytes of the left one, then four of the right one.
@@ -268,14 +229,13 @@ fn stereo_group(
     sound: &[i16],
     at: usize,
     left: usize,
-    table: &Steps,
     from: Channels,
     out: &mut [u8],
     to: usize,
 ) -> Channels
     requires { (2 ≤ length sound.now) × (2 * left ≤ length sound.now - at) × (at < 4294967296) × (to + 8 ≤ length out.old)
         × (from.left.state.index < 89) × (from.right.state.index < 89)
-        × (from.left.chased + 8 < 4294967296) × (from.right.chased + 8 < 4294967296) × IsSteps table.now }
+        × (from.left.chased + 8 < 4294967296) × (from.right.chased + 8 < 4294967296) }
     ensures ran { BothRan from 8
         (channel_after from.left left (lefts_from sound.now at 8))
         (channel_after from.right left (rights_from sound.now at 8))
@@ -285,20 +245,19 @@ fn stereo_group(
 {
     let n = sound.len();
     let lefts = Samples {
-        at: at,
+        at,
         stride: 2,
         last: n - 2,
-        left: left,
+        left,
     };
     let rights = Samples {
         at: at + 1,
-        stride: 2,
         last: n - 1,
-        left: left,
+        ..lefts
     };
-    let l = channel_bytes(sound, lefts, 4, table, from.left, out, to);
-    let r = channel_bytes(sound, rights, 4, table, from.right, out, to + 4);
-    Channels { left: l, right: r }
+    let left = channel_bytes(sound, lefts, 4, from.left, out, to);
+    let right = channel_bytes(sound, rights, 4, from.right, out, to + 4);
+    Channels { left, right }
 }
 
 // Codes groups of eight frames of both channels, four bytes of each channel in turn.
@@ -306,14 +265,13 @@ fn stereo_groups(
     sound: &[i16],
     at: usize,
     groups: usize,
-    table: &Steps,
     from: Channels,
     out: &mut [u8],
     to: usize,
 ) -> Channels
     requires { (2 ≤ length sound.now) × (at ≤ length sound.now) × (at ≤ 1073741824) × (groups ≤ 511)
         × (to + 8 * groups ≤ length out.old) × (from.left.state.index < 89) × (from.right.state.index < 89)
-        × (from.left.chased + 8 * groups < 4294967296) × (from.right.chased + 8 * groups < 4294967296) × IsSteps table.now }
+        × (from.left.chased + 8 * groups < 4294967296) × (from.right.chased + 8 * groups < 4294967296) }
     ensures ran { BothRan from (8 * groups)
         (channel_after from.left ((length sound.now - at) / 2) (lefts_from sound.now at (8 * groups)))
         (channel_after from.right ((length sound.now - at) / 2) (rights_from sound.now at (8 * groups)))
@@ -323,15 +281,9 @@ fn stereo_groups(
 {
     let mut channels = from;
     let mut there = (sound.len() - at) / 2;
-    let mut x = at;
-    let mut y = to;
-    let mut i = 0;
-    while i < groups {
-        channels = stereo_group(sound, x, there, table, channels, out, y);
-        there = less(there, 8);
-        x += 16;
-        y += 8;
-        i += 1;
+    for i in 0..groups {
+        channels = stereo_group(sound, at + 16 * i, there, channels, out, to + 8 * i);
+        there = there.saturating_sub(8);
     }
     channels
 }
@@ -341,7 +293,6 @@ pub fn stereo_block(
     sound: &[i16],
     at: usize,
     groups: usize,
-    table: &Steps,
     from: Channels,
     out: &mut [u8],
     to: usize,
@@ -349,7 +300,7 @@ pub fn stereo_block(
     requires { (at + 2 ≤ length sound.now) × (length sound.now ≤ 536870912) × (groups ≤ 511)
         × (to + 8 * groups + 8 ≤ length out.old)
         × (from.left.state.index < 89) × (from.right.state.index < 89)
-        × (from.left.chased + 8 * groups < 4294967296) × (from.right.chased + 8 * groups < 4294967296) × IsSteps table.now }
+        × (from.left.chased + 8 * groups < 4294967296) × (from.right.chased + 8 * groups < 4294967296) }
     ensures ran { BothRan from (8 * groups)
         (channel_after_block from.left ((length sound.now - at) / 2) (lefts_from sound.now at (8 * groups + 1)))
         (channel_after_block from.right ((length sound.now - at) / 2) (rights_from sound.now at (8 * groups + 1)))
@@ -358,5 +309,5 @@ pub fn stereo_block(
         result out.old to out.new }
 {
     let channels = open_both(sound[at], sound[at + 1], from, out, to);
-    stereo_groups(sound, at + 2, groups, table, channels, out, to + 8)
+    stereo_groups(sound, at + 2, groups, channels, out, to + 8)
 }

@@ -5,25 +5,21 @@
 use rules::Record;
 use std::io;
 use tables::{Cue, Cues, Play, Playlist};
-use units::{Frames, Refusal, Verdict};
+use units::{Frames, Refusal};
 
 // A refusal, by its number.
 pub fn refused(rt: &impl Print, refusal: Refusal) -> io::Result<()> {
-    show::field(rt, b"refused ", units::number(refusal) as u64)?;
-    show::line(rt)
+    println!(rt; "refused {}", units::number(refusal))
 }
 
 // How many frames there are.
 pub fn frames(rt: &impl Print, count: Frames) -> io::Result<()> {
-    show::field(rt, b"frames ", count.0 as u64)?;
-    show::line(rt)
+    println!(rt; "frames {}", count.0)
 }
 
 // A cue: its name and its place.
 fn cue_line(rt: &impl Print, cue: Cue) -> io::Result<()> {
-    show::field(rt, b"cue ", cue.name.0 as u64)?;
-    show::field(rt, b" at ", cue.place.0 as u64)?;
-    show::line(rt)
+    println!(rt; "cue {} at {}", cue.name.0, cue.place.0)
 }
 
 // A line for each cue.
@@ -36,10 +32,10 @@ fn cues(rt: &impl Print, table: Cues) -> io::Result<()> {
 
 // A playlist entry: its name, how many frames, and how often.
 fn play_line(rt: &impl Print, play: Play) -> io::Result<()> {
-    show::field(rt, b"play ", play.name.0 as u64)?;
-    show::field(rt, b" length ", play.length.0 as u64)?;
-    show::field(rt, b" times ", play.times as u64)?;
-    show::line(rt)
+    println!(rt;
+        "play {} length {} times {}",
+        play.name.0, play.length.0, play.times
+    )
 }
 
 // A line for each playlist entry.
@@ -53,22 +49,20 @@ fn plays(rt: &impl Print, playlist: Playlist) -> io::Result<()> {
 // What a file says, line by line.
 fn accepted(rt: &impl Print, made: Record) -> io::Result<()> {
     let format = made.format;
-    show::field(rt, b"wave tag ", format.tag as u64)?;
-    show::field(rt, b" channels ", format.channels as u64)?;
-    show::field(rt, b" rate ", format.rate as u64)?;
-    show::field(rt, b" bits ", format.bits as u64)?;
-    show::field(rt, b" frames ", made.frames.0 as u64)?;
-    show::line(rt)?;
+    let frames = made.frames.0;
+    print!(rt;
+        "wave tag {} channels {} rate {}",
+        format.tag, format.channels, format.rate
+    )?;
+    println!(rt; " bits {} frames {frames}", format.bits)?;
     cues(rt, made.cues)?;
     plays(rt, made.playlist)
 }
 
 // The listing of a file. It shows no titles, so the file is opened and not read with room for their texts.
 pub fn list(rt: &impl Print, file: &[u8]) -> io::Result<()> {
-    let opened = reader::open(file);
-    let reading = opened.answer;
-    match reading.verdict {
-        Verdict::Accepted => accepted(rt, reading.made),
-        Verdict::Refused(refusal) => refused(rt, refusal),
+    match reader::open(file) {
+        Ok(opened) => accepted(rt, opened.made),
+        Err(refusal) => refused(rt, refusal),
     }
 }

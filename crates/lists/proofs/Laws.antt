@@ -1,121 +1,66 @@
 -- Laws of numbers among others and of tests over a range, in the words of the loops. Assumes nothing.
-use mathlib.Core.Path.{◌≡◌, refl, sym, ap, ◌∙◌, subst}
-use mathlib.Core.Bool.{Bool, true, false, not, cond, ◌&&◌}
-use mathlib.Core.List.{List, []}
-use Prim.Native.Nat.{ℕ, zero, suc, ◌+◌, ◌-◌, ◌*◌, ◌/◌, ◌≤◌, ◌<◌}
-use native.Mathlib.Nat.{le_of_lt}
-use native.Mathlib.Numerals.{add-one}
-use native.Mathlib.Omega.{arith}
-use lib.Dec.{eqb, ltb}
-use lib.ListN.{length, take, drop, get_or, drop_of_length-le, length-drop}
-use lib.Seq.{drop-cons, take_all}
-use borrow.Author.Tests.{eq-eqb, ne_eqb, lt-ltb, le-ltb, ltb-true, ltb-false, eqb-true, eqb-false}
-use Rattle.lists.specs.Among.{index_in, has, distinct}
+use Rattle.std.proofs.Common.{◌≡◌, refl, sym, ap, ◌∙◌, subst, Bool, true, false, cond, ◌&&◌, List, [], ◌∷◌, ℕ, zero, suc, ◌+◌, ◌-◌, ◌≤◌, ◌<◌, ◌↔◌, add-one, arith, eqb, ltb, length, get_or, Option, Some, None, MatchOption, is_some, position}
+use Rattle.std.specs.List.{position_or_len}
+use Rattle.std.proofs.lemmas.List.Recursion.{is_position_or_len}
+use borrow.Author.Tests.{lt-ltb, ltb-true, eqb-true, eqb-false}
+use Rattle.lists.specs.Among.{index_in, has, place_in, distinct}
 use Rattle.lists.specs.Every.{every, all_below}
 
--- ---- looking for x: it is none of the first i
-pub record Seeking (x : ℕ) (ys : List ℕ) (i : ℕ) : Type 0 where
-  pub room : i ≤ length ys
-  pub same : i + index_in x (drop i ys) ≡ index_in x ys
+-- ---- where x is first, as a walk over a list finds it
+index-position : (x : ℕ) (ys : List ℕ) → index_in x ys ≡ position_or_len (λ y. eqb y x) ys
+unfolding index_in
+index-position x =
+    is_position_or_len (index_in x) (λ y. eqb y x) refl-nil step
+  where
+    refl-nil : index_in x [] ≡ 0
+    refl-nil = refl
 
-module _ {x : ℕ} {ys : List ℕ} where
-  module _ {i : ℕ} (w : Seeking x ys i) where
-    pub seek-ends : length ys ≤ i → i ≡ index_in x ys
-    unfolding index_in
-    seek-ends h =
-        let e = ap (index_in x) (drop_of_length-le ys h) in
-        let s = w.same in
-        omega arith
+    step : (y : ℕ) (ys : List ℕ) → index_in x (y ∷ ys) ≡ cond (eqb y x) 0 (1 + index_in x ys)
+    step y ys = let e : suc (index_in x ys) ≡ 1 + index_in x ys = omega arith in ap (cond (eqb y x) 0) e
 
-    module _ (h : i < length ys) where
-      found_at : index_in x (drop i ys) ≡ cond (eqb (get_or ys i 0) x) 0 (suc (index_in x (drop (suc i) ys)))
-      unfolding index_in
-      found_at = ap (index_in x) (drop-cons ys i 0 h)
+pub position-place : (x : ℕ) (ys : List ℕ) → position (λ y. eqb y x) ys ≡ place_in x ys
+unfolding place_in has
+position-place x ys = simp (← index-position)
 
-      pub seek_found : get_or ys i 0 ≡ x → i ≡ index_in x ys
-      seek_found e =
-          let f : index_in x (drop i ys) ≡ 0 = found_at ∙ simp (eq-eqb (get_or ys i 0) x e) in
-          let s = w.same in
-          omega arith
+-- what the place says: x is none of them, or it is first there
+pub place-found : (x : ℕ) (ys : List ℕ) {r : Option ℕ} → r ≡ place_in x ys
+    → MatchOption r (has x ys ≡ false) (λ i. (i ≡ index_in x ys) × (i < length ys))
+unfolding place_in has
+place-found x ys e =
+    subst (λ (r : Option ℕ). MatchOption r (has x ys ≡ false) (λ i. (i ≡ index_in x ys) × (i < length ys))) (sym e)
+    (by (ltb (index_in x ys) (length ys)) refl)
+  where
+    by : (b : Bool) → ltb (index_in x ys) (length ys) ≡ b
+        → MatchOption (cond b (Some (index_in x ys)) None) (ltb (index_in x ys) (length ys) ≡ false)
+        (λ i. (i ≡ index_in x ys) × (i < length ys))
+    by true t = (refl, ltb-true (index_in x ys) (length ys) t)
+    by false t = t
 
-      pub seek-next : (get_or ys i 0 ≡ x → ⊥) → Seeking x ys (i + 1)
-      seek-next n =
-          let f : index_in x (drop i ys) ≡ suc (index_in x (drop (suc i) ys)) = found_at ∙ simp (ne_eqb (get_or ys i 0) x n) in
-          let s = w.same in
-          let g = ap (λ (k : ℕ). index_in x (drop k ys)) (add-one i) in
-          record { room = omega arith; same = omega arith }
+-- ---- numbers that differ: the first of them stands again behind itself, or what is behind it decides
+pub none-left : (ys : List ℕ) → length ys ≡ 0 → distinct ys ≡ true
+unfolding distinct
+none-left [] e = refl
+none-left (y ∷ ys) e = absurd (omega arith)
 
-  -- of the next two the number is the first, or the second, or neither; or one is left, or none
-  module _ {k : ℕ} (w : Seeking x ys (2 * k)) where
-    module _ (h : k < length ys / 2) where
-      pub seek-first : get_or ys (2 * k) 0 ≡ x → 2 * k ≡ index_in x ys
-      seek-first e = seek_found w (omega arith) e
+pub place-some : (x : ℕ) (ys : List ℕ) → is_some (place_in x ys) ≡ has x ys
+unfolding place_in
+place-some x ys = by (has x ys)
+  where
+    by : (b : Bool) → is_some (cond b (Some (index_in x ys)) None) ≡ b
+    by true = refl
+    by false = refl
 
-      module _ (n : get_or ys (2 * k) 0 ≡ x → ⊥) where
-        pub seek-second : get_or ys (2 * k + 1) 0 ≡ x → 2 * k + 1 ≡ index_in x ys
-        seek-second e = seek_found (seek-next w (omega arith) n) (omega arith) e
+module _ {x : ℕ} {ys zs : List ℕ} {r : Option ℕ} (e : ys ≡ x ∷ zs) (f : r ≡ place_in x zs) where
+  behind : {b : Bool} → b ≡ is_some r → has x zs ≡ b
+  behind h = sym (h ∙ ap is_some f ∙ place-some x zs)
 
-        pub seek-neither : (get_or ys (2 * k + 1) 0 ≡ x → ⊥) → Seeking x ys (2 * (k + 1))
-        seek-neither m =
-            let e : 2 * k + 1 + 1 ≡ 2 * (k + 1) = omega arith in
-            subst (Seeking x ys) e (seek-next (seek-next w (omega arith) n) (omega arith) m)
+  pub again-behind : true ≡ is_some r → distinct ys ≡ false
+  unfolding distinct
+  again-behind h = ap distinct e ∙ simp (behind h)
 
-    pub seek-last : length ys / 2 ≤ k → 2 * k < length ys → (get_or ys (2 * k) 0 ≡ x → ⊥) → 2 * k + 1 ≡ index_in x ys
-    seek-last l h n = seek-ends (seek-next w h n) (omega arith)
-
-pub ruleset seeking = (seek-ends, seek_found, seek-first, seek-second, seek-neither, seek-last)
-
--- ---- none of the first i stands in the list again
-pub record Differing (ys : List ℕ) (i : ℕ) : Type 0 where
-  pub room : i ≤ length ys
-  pub same : distinct (drop i ys) ≡ distinct ys
-
-module _ {ys : List ℕ} where
-  module _ {i : ℕ} (w : Differing ys i) where
-    -- what follows the number at i
-    abbrev after : List ℕ
-    after = take (length ys - (i + 1)) (drop (i + 1) ys)
-
-    whole : after ≡ drop (suc i) ys
-    whole =
-        let g : length (drop (i + 1) ys) ≤ length ys - (i + 1) = simp length-drop (omega arith) in
-        take_all (length ys - (i + 1)) (drop (i + 1) ys) g ∙ ap (λ (k : ℕ). drop k ys) (add-one i)
-
-    rest_from : i < length ys → {b : Bool} → has (get_or ys i 0) after ≡ b → (not b && distinct (drop (suc i) ys)) ≡ distinct ys
-    unfolding distinct
-    rest_from h t = sym (ap distinct (drop-cons ys i 0 h) ∙ simp (← whole, t)) ∙ w.same
-
-    -- the last number has none after it
-    pub differ-ends : length ys ≤ i + 1 → true ≡ distinct ys
-    unfolding distinct has index_in
-    differ-ends h =
-        let e : drop (suc i) ys ≡ [] = drop_of_length-le ys {i = suc i} (omega arith) in
-        by (ltb i (length ys)) refl e
-      where
-        by : (b : Bool) → ltb i (length ys) ≡ b → drop (suc i) ys ≡ [] → true ≡ distinct ys
-        by true t e = sym (ap distinct (drop-cons ys i 0 (ltb-true i (length ys) t)) ∙ simp e) ∙ w.same
-        by false t e = sym (ap distinct (drop_of_length-le ys (ltb-false i (length ys) t))) ∙ w.same
-
-    module _ (h : i + 1 < length ys) where
-      pub differ-twice : {n : ℕ} → n < length after → n ≡ index_in (get_or ys i 0) after → false ≡ distinct ys
-      unfolding has
-      differ-twice {n} g f = rest_from (omega arith) {b = true} (simp (← f, lt-ltb n (length after) g))
-
-      -- the very next number is one that follows; no proof asks for it, but a program that looks at no other is refused where it is wrong
-      pub differ-beside : {n : ℕ} → n < 1 → n ≡ index_in (get_or ys i 0) after → false ≡ distinct ys
-      differ-beside {n} g f =
-          let l : length after ≡ length ys - (i + 1) = ap length whole ∙ length-drop (suc i) ys ∙ omega arith in
-          differ-twice (omega arith) f
-
-      pub differ-next : {n : ℕ} → length after ≤ n → n ≡ index_in (get_or ys i 0) after → Differing ys (i + 1)
-      unfolding has
-      differ-next {n} g f =
-          record {
-            room = omega arith;
-            same = ap (λ (k : ℕ). distinct (drop k ys)) (add-one i) ∙ rest_from (omega arith) {b = false} (simp (← f, le-ltb n (length after) g));
-          }
-
-pub ruleset differing = (differ-ends, differ-twice, differ-beside, differ-next)
+  pub none-behind : false ≡ is_some r → distinct ys ≡ distinct zs
+  unfolding distinct
+  none-behind h = ap distinct e ∙ simp (behind h)
 
 -- ---- the test holds at all places below i
 pub record Holding (test : ℕ → Bool) (n i : ℕ) : Type 0 where
@@ -150,29 +95,6 @@ module _ {test : ℕ → Bool} {n : ℕ} where
           record { room = omega arith; same = sym (all_from ∙ ap (λ (b : Bool). b && every test (i + 1) (n - (i + 1))) (sym e ∙ f)) ∙ w.same }
 
 pub ruleset holding = (hold-begins, hold-ends, hold-fails, hold-next)
-
--- ---- the first i numbers are below n
-pub record Below (n : ℕ) (ys : List ℕ) (i : ℕ) : Type 0 where
-  pub holding : Holding (λ k. ltb (get_or ys k 0) n) (length ys) i
-
-module _ {n : ℕ} {ys : List ℕ} where
-  pub below-begins : Below n ys 0
-  below-begins = record { holding = hold-begins }
-
-  module _ {i : ℕ} (w : Below n ys i) where
-    pub below-ends : length ys ≤ i → true ≡ all_below n ys
-    unfolding all_below
-    below-ends h = hold-ends w.holding h
-
-    pub below_fails : i < length ys → n ≤ get_or ys i 0 → false ≡ all_below n ys
-    unfolding all_below
-    below_fails h g = hold-fails w.holding h refl (le-ltb (get_or ys i 0) n g)
-
-    pub below_next : i < length ys → get_or ys i 0 < n → Below n ys (i + 1)
-    below_next h g = record { holding = hold-next w.holding h refl (lt-ltb (get_or ys i 0) n g) }
-
--- with the last law, a program that lets a number reach n is refused where it is wrong
-pub ruleset below = (below-begins, below-ends, below_fails, below_next, le_of_lt)
 
 -- ---- a test that holds at every place holds at all of them
 pub every-all : (test : ℕ → Bool) (i n : ℕ) → ((k : ℕ) → i ≤ k → k < i + n → test k ≡ true) → every test i n ≡ true
@@ -211,3 +133,24 @@ by_eqb a b P f g = by (eqb a b) refl
     by : (q : Bool) → eqb a b ≡ q → P q
     by true t = f (eqb-true a b t)
     by false t = g (eqb-false a b t)
+
+-- ---- an answer that is true exactly where the test holds at every place
+pub every-is : (test : ℕ → Bool) (n : ℕ) (r : Bool) → (r ≡ true ↔ ((k : ℕ) → k < n → test k ≡ true)) → r ≡ every test 0 n
+every-is test n r e = by r (every test 0 n) forth back
+  where
+    forth : r ≡ true → every test 0 n ≡ true
+    forth t = every-all test 0 n (λ k _ g. e.0 t k (omega arith))
+
+    back : every test 0 n ≡ true → r ≡ true
+    back t = e.1 (λ k g. every-at test 0 n k t (omega arith) (omega arith))
+
+    by : (a b : Bool) → (a ≡ true → b ≡ true) → (b ≡ true → a ≡ true) → a ≡ b
+    by true b f g = sym (f refl)
+    by false true f g = g refl
+    by false false f g = refl
+
+pub below-all : (n : ℕ) (ys : List ℕ) (r : Bool) → (r ≡ true ↔ ((k : ℕ) → k < length ys → get_or ys k 0 < n)) → r ≡ all_below n ys
+unfolding all_below
+below-all n ys r e =
+    every-is (λ i. ltb (get_or ys i 0) n) (length ys) r
+    (λ t k g. lt-ltb (get_or ys k 0) n (e.0 t k g), λ f. e.1 (λ k g. ltb-true (get_or ys k 0) n (f k g)))

@@ -2,49 +2,30 @@
 // after the other.
 #![tactic(auto)]
 
-ghost use Rattle.std.specs.Prelude.{◌≡◌, ◌≤◌, length};
-ghost use Rattle.lists.specs.Among.{index_in, distinct};
+ghost use Rattle.std.specs.Prelude.{◌≡◌, ◌<◌, false, length, MatchOption};
+ghost use Rattle.lists.specs.Among.{index_in, has, place_in, distinct};
 ghost use Rattle.lists.specs.Every.{all_below};
 
-// The first place of a number among others; where it is none of them, how many they are. Two of them
-// are looked at in a turn.
-pub fn find(numbers: &[u32], number: u32) -> usize
-    ensures answer { result ≡ index_in number numbers.now }
-    ensures bound { result ≤ length numbers.now }
+// The first place of a number among others, and none where it is none of them.
+pub fn find(numbers: &[u32], number: u32) -> Option<usize>
+    ensures answer { result ≡ place_in number numbers.now }
+    ensures place { MatchOption result
+        (has number numbers.now ≡ false)
+        (λ i. (i ≡ index_in number numbers.now) × (i < length numbers.now)) }
 {
-    let pairs = numbers.len() / 2;
-    let mut k = 0;
-    while k < pairs {
-        if numbers[2 * k] == number {
-            return 2 * k;
-        }
-        if numbers[2 * k + 1] == number {
-            return 2 * k + 1;
-        }
-        k += 1;
-    }
-    let i = 2 * k;
-    if i < numbers.len() {
-        if numbers[i] != number {
-            return i + 1;
-        }
-    }
-    i
+    numbers.iter().position(|other| *other == number)
 }
 
-// Whether no number stands there twice.
+// Whether no number stands there twice: none stands again behind itself.
 pub fn all_differ(numbers: &[u32]) -> bool
     ensures answer { result ≡ distinct numbers.now }
 {
-    let mut i = 0;
-    while i + 1 < numbers.len() {
-        let number = numbers[i];
-        let rest = &numbers[i + 1..];
-        let place = find(rest, number);
-        if place < rest.len() {
+    let mut left = numbers;
+    while let Some((first, rest)) = left.split_first() {
+        if find(rest, *first).is_some() {
             return false;
         }
-        i += 1;
+        left = rest;
     }
     true
 }
@@ -53,12 +34,5 @@ pub fn all_differ(numbers: &[u32]) -> bool
 pub fn all_below(numbers: &[u32], limit: u32) -> bool
     ensures answer { result ≡ all_below limit numbers.now }
 {
-    let mut i = 0;
-    while i < numbers.len() {
-        if limit <= numbers[i] {
-            return false;
-        }
-        i += 1;
-    }
-    true
+    numbers.iter().all(|number| *number < limit)
 }

@@ -1,12 +1,13 @@
 -- The laws of filling a lent buffer, once for every type of element: what a run of writes has done and has left to do. Assumes nothing.
 use mathlib.Core.Path.{◌≡◌, refl, sym, ap, ◌∙◌, subst}
 use mathlib.Core.List.{List, [], ◌∷◌, ◌++◌, append_assoc, append-nil}
-use Prim.Native.Nat.{ℕ, ◌+◌, ◌-◌, ◌≤◌, ◌<◌}
+use Prim.Native.Nat.{ℕ, ◌+◌, ◌-◌, ◌*◌, ◌/◌, ◌≤◌, ◌<◌}
 use native.Mathlib.Nat.{zero-add, add-zero}
 use native.Mathlib.Numerals.{add-one, add-two, add-three}
 use native.Mathlib.Omega.{arith}
 use lib.ListN.{length, take, drop, get_or, set, length-append, length-drop, take-append-drop, drop_of_length-le}
-use lib.Seq.{take-add, take_all, take_at, take-take, take-append-add, take-append-le, drop_at, drop-drop, length-take-le, drop-cons, sets-eq}
+use lib.Seq.{take_all, take_at, drop_at, drop-drop, length-take-le, drop-cons, sets-eq}
+use borrow.Rule.Slice.PartMut.{put_mid}
 use Rattle.little.specs.Writing.{write_at, front, Put}
 
 -- d₀ is to become p, and then what d₀ has past it. In d that is done up to index at, and rest is left to write
@@ -42,6 +43,36 @@ module _ {A : Type 0} where
   pub put-nothing : {d : List A} {at : ℕ} → Put d at [] d
   unfolding write_at
   put-nothing {d} {at} = record { same = sym (rw (append-nil (take at d), add-zero at) (take-append-drop at d)) }
+
+  -- a copy over a part of the buffer, which leaves put_mid
+  pub put_part : {d ys : List A} (at k : ℕ) → length ys ≡ k → Put d at ys (put_mid at k d ys)
+  unfolding write_at
+  put_part {d} {ys} at k e =
+      record {
+        same =
+            sym (append_assoc (take at d) ys (drop k (drop at d)))
+            ∙ ap (λ (l : List A). take at d ++ ys ++ l) (drop-drop k at d ∙ ap (λ (n : ℕ). drop (at + n) d) (sym e));
+      }
+
+  -- a write from the start of what lies behind index k
+  pub put_rest : {d ys e : List A} (k : ℕ) → k ≤ length d → e ≡ front ys (take (length d - k) (drop k d)) → Put d k ys (put_mid k (length d - k) d e)
+  unfolding write_at front
+  put_rest {d} {ys} {e} k h w =
+      let m : ℕ = length d - k in
+      let none : drop m (drop k d) ≡ [] = drop-drop m k d ∙ drop_of_length-le d (omega arith) in
+      let whole : take m (drop k d) ≡ drop k d = take_all m (drop k d) (omega (arith, length-drop k d)) in
+      let made : e ≡ ys ++ drop (k + length ys) d = w ∙ ap (λ (l : List A). ys ++ drop (length ys) l) whole ∙ ap (λ (l : List A). ys ++ l) (drop-drop (length ys) k d) in
+      record {
+        same =
+            (λ i. take k d ++ (made i ++ none i))
+            ∙ ap (λ (l : List A). take k d ++ l) (append-nil (ys ++ drop (k + length ys) d))
+            ∙ sym (append_assoc (take k d) ys (drop (k + length ys) d));
+      }
+
+  -- the whole of a buffer is written
+  pub front-whole : (d ys : List A) → length d ≤ length ys → front ys d ≡ ys
+  unfolding front
+  front-whole d ys h = ap (λ (l : List A). ys ++ l) (drop_of_length-le d h) ∙ append-nil ys
 
   -- one store, and two and four in a row
   pub one_store : {d : List A} {at : ℕ} {x : A} → at + 1 ≤ length d → Put d at (x ∷ []) (set d at x)
@@ -145,34 +176,6 @@ module _ {A : Type 0} where
   pub drop-next : (s : List A) (i : ℕ) (z : A) → i < length s → drop i s ≡ get_or s i z ∷ drop (i + 1) s
   drop-next s i z h = drop-cons s i z h ∙ ap (λ (k : ℕ). get_or s i z ∷ drop k s) (sym (add-one i))
 
-  -- two parts of ys, put one behind the other, are one: m elements from index i, and n from index j
-  pub put-parts : (ys : List A) {d e g : List A} {at at' : ℕ} (i j m n : ℕ) → Put d at (take m (drop i ys)) e → Put e at' (take n (drop j ys)) g
-      → at' ≡ at + m → j ≡ i + m → at' + n ≤ length d → j + n ≤ length ys → Put d at (take (m + n) (drop i ys)) g
-  put-parts ys {d} {e} {g} {at} {at'} i j m n p q a b r h =
-      subst (λ (l : List A). Put d at l g)
-      (ap (λ (k : ℕ). take m (drop i ys) ++ take n (drop k ys)) b
-      ∙ ap (λ (l : List A). take m (drop i ys) ++ take n l) (sym (drop-drop m i ys))
-      ∙ sym (take-add m n (drop i ys)))
-      (put_next p q (omega (arith, part-long ys i m (omega arith))) (omega (arith, part-long ys j n h)))
-
-  -- four parts of n elements each
-  pub four-parts : (n : ℕ) (ys : List A) {d a b c e : List A} {at at₁ at₂ at₃ : ℕ} (i i₁ i₂ i₃ : ℕ)
-      → Put d at (take n (drop i ys)) a → Put a at₁ (take n (drop i₁ ys)) b → Put b at₂ (take n (drop i₂ ys)) c → Put c at₃ (take n (drop i₃ ys)) e
-      → at₁ ≡ at + n → at₂ ≡ at₁ + n → at₃ ≡ at₂ + n → i₁ ≡ i + n → i₂ ≡ i₁ + n → i₃ ≡ i₂ + n
-      → at₃ + n ≤ length d → i₃ + n ≤ length ys → Put d at (take (n + n + n + n) (drop i ys)) e
-  four-parts n ys i i₁ i₂ i₃ p q r t a₁ a₂ a₃ b₁ b₂ b₃ room h =
-      let v = put-parts ys i i₁ n n p q a₁ b₁ (omega arith) (omega arith) in
-      let w = put-parts ys i i₂ (n + n) n v r (omega arith) (omega arith) (omega arith) (omega arith) in
-      put-parts ys i i₃ (n + n + n) n w t (omega arith) (omega arith) (omega arith) h
-
-  -- in the words of the code
-  pub four-sixteens : (ys : List A) {d a b c e : List A} {at : ℕ} (i : ℕ)
-      → Put d at (take 16 (drop i ys)) a → Put a (at + 16) (take 16 (drop (i + 16) ys)) b → Put b (at + 32) (take 16 (drop (i + 32) ys)) c
-      → Put c (at + 48) (take 16 (drop (i + 48) ys)) e → at + 64 ≤ length d → i + 64 ≤ length ys → Put d at (take 64 (drop i ys)) e
-  four-sixteens ys i p q r t room h =
-      four-parts 16 ys i (i + 16) (i + 32) (i + 48) p q r t
-      refl (omega arith) (omega arith) refl (omega arith) (omega arith) (omega arith) (omega arith)
-
 -- ---- ys goes to index at of d₀; in d its first i elements are written
 pub record Written {A : Type 0} (ys : List A) (at i : ℕ) (d d₀ : List A) : Type 0 where
   pub room : at + length ys ≤ length d₀
@@ -202,80 +205,39 @@ module _ {A : Type 0} {ys d d₀ : List A} {at i : ℕ} (w : Written ys at i d d
   write-ends h =
       filled_put (subst (λ (l : List A). Filled (take at d₀ ++ ys) l (at + i) d d₀) (drop_of_length-le ys h) w.filled) (omega (arith, w.room))
 
-  -- the next element as it stands
-  pub copy-next : (z : A) → i < length ys → Written ys at (i + 1) (set d (at + i) (get_or ys i z)) d₀
-  copy-next z h = write-next z h refl
-
-  -- k elements more, as they stand
-  pub part_room : (k : ℕ) → k < length ys - i → at + i + k ≤ length d
-  part_room k h = omega (arith, w.room, w.filled.long)
-
-  pub copy-part : (k : ℕ) {e : List A} → k < length ys - i → Put d (at + i) (take k (drop i ys)) e → Written ys at (i + k) e d₀
-  copy-part k h p =
-      let rest : List A = drop i ys in
-      write-piece p
-      (sym (take-append-drop k rest) ∙ ap (λ (m : List A). take k rest ++ m) (drop-drop k i ys))
-      (omega (arith, part-long ys i k (omega arith)))
+-- ys goes to index at, 128 elements at a turn, and then the rest
+module _ {A : Type 0} (ys : List A) (at : ℕ) {d d₀ : List A} where
+  pub turns-next : {e : List A} (i : ℕ) → Written ys at (128 * i) d d₀ → i < length ys / 128 → e ≡ take (128 * i + 128 - 128 * i) (drop (128 * i) ys)
+      → Written ys at (128 * (i + 1)) (put_mid (at + 128 * i) (at + 128 * i + 128 - (at + 128 * i)) d e) d₀
+  turns-next {e} i w h g =
+      let k : ℕ = 128 * i in
+      let n : k + 128 - k ≡ 128 = omega arith in
+      let q : e ≡ take 128 (drop k ys) = g ∙ ap (λ (m : ℕ). take m (drop k ys)) n in
+      let l : length e ≡ 128 = ap length q ∙ part-long ys k 128 (omega arith) in
+      write-piece w (put_part (at + k) (at + k + 128 - (at + k)) (omega arith))
+      (sym (take-append-drop 128 (drop k ys)) ∙ ap (λ (m : List A). m ++ drop 128 (drop k ys)) (sym q)
+      ∙ ap (λ (m : List A). e ++ m) (drop-drop 128 k ys ∙ ap (λ (j : ℕ). drop j ys) (omega arith)))
+      (omega arith)
       (omega arith)
 
-  -- the first j elements, of those that are written
-  first_part : (j : ℕ) → j ≤ i → take (at + j) d ≡ take at d₀ ++ take j ys
-  first_part j h =
-      let l = length-take-le (at + i) d w.filled.room in
-      let l₀ = length-take-le at d₀ (omega (arith, w.room)) in
-      sym (take-take (at + j) (at + i) d (omega arith))
-      ∙ sym (take-append-le (at + j) (take (at + i) d) (drop i ys) (omega arith))
-      ∙ ap (take (at + j)) w.filled.head
-      ∙ ap (λ (k : ℕ). take (k + j) (take at d₀ ++ ys)) (sym l₀)
-      ∙ take-append-add (take at d₀) ys j
+  pub turns-end : {e : List A} (i : ℕ) → Written ys at (128 * i) d d₀ → length ys / 128 ≤ i → i ≤ length ys / 128
+      → e ≡ take (length ys - 128 * (length ys / 128)) (drop (128 * (length ys / 128)) ys)
+      → Put d₀ at ys (put_mid (at + 128 * (length ys / 128)) (at + length ys - (at + 128 * (length ys / 128))) d e)
+  turns-end {e} i w h k g =
+      let r : ℕ = 128 * (length ys / 128) in
+      let w' : Written ys at r d d₀ = subst (λ (n : ℕ). Written ys at n d d₀) (omega arith) w in
+      let q : e ≡ drop r ys = g ∙ take_all (length ys - r) (drop r ys) (omega (arith, length-drop r ys)) in
+      let l : length e ≡ length ys - r = ap length q ∙ length-drop r ys in
+      write-ends
+      (write-piece w' {j = length ys} (put_part (at + r) (at + length ys - (at + r)) (omega arith))
+      (sym (append-nil (drop r ys)) ∙ ap (λ (m : List A). m ++ []) (sym q) ∙ ap (λ (m : List A). e ++ m) (sym (drop_of_length-le ys {i = length ys} (omega arith))))
+      (omega arith)
+      (omega arith))
+      (omega arith)
 
-  -- the last k elements, of which some may be written already
-  pub last-room : (k : ℕ) → k ≤ length ys → at + (length ys - k) + k ≤ length d
-  last-room k h = omega (arith, w.room, w.filled.long)
-
-  pub copy-last : (k : ℕ) {e : List A} → k ≤ length ys → length ys - i ≤ k
-      → Put d (at + (length ys - k)) (take k (drop (length ys - k) ys)) e → Put d₀ at ys e
-  unfolding write_at
-  copy-last k {e} h u p =
-      let j : ℕ = length ys - k in
-      let r : List A = drop (at + length ys) d₀ in
-      let l : length (drop j ys) ≡ k = length-drop j ys ∙ omega arith in
-      let n : at + j + length (take k (drop j ys)) ≡ at + i + (length ys - i) = omega (arith, part-long ys j k (omega arith), w.upto) in
-      let m : at + i + (length ys - i) ≡ at + length ys = omega (arith, w.upto) in
-      let t = ap (λ (z : ℕ). drop z d) n ∙ drop_more d d₀ (at + i) (length ys - i) w.filled.tail ∙ ap (λ (z : ℕ). drop z d₀) m in
-      let f = first_part j (omega arith) in
-      let g = take_all k (drop j ys) (omega arith) in
-      record {
-        same =
-            p.same
-            ∙ (λ x. f x ++ g x ++ t x)
-            ∙ ap (λ (z : List A). z ++ r) (append_assoc (take at d₀) (take j ys) (drop j ys) ∙ ap (λ (z : List A). take at d₀ ++ z) (take-append-drop j ys));
-      }
-
--- the first k elements, and then the rest
-pub few-long : {n k : ℕ} → k ≤ 16 → 80 ≤ n → k ≤ n
-few-long h g = omega arith
-
-pub few-room : {A : Type 0} (ys d : List A) (at k : ℕ) → at + length ys ≤ length d → k ≤ length ys → at + length (take k ys) ≤ length d
-few-room ys d at k r h = omega (arith, length-take-le k ys h)
-
-module _ {A : Type 0} {ys d e g : List A} {at : ℕ} where
-  pub copy-both : (k : ℕ) → Put d at (take k ys) e → Put e (at + k) (take (length ys - k) (drop k ys)) g
-      → k ≤ 16 → 80 ≤ length ys → at + length ys ≤ length d → Put d at ys g
-  copy-both k p q l n r =
-      let h = length-take-le k ys (omega arith) in
-      let u = take_all (length ys - k) (drop k ys) (omega (arith, length-drop k ys)) in
-      subst (λ (l : List A). Put d at l g)
-      (ap (λ (l : List A). take k ys ++ l) u ∙ take-append-drop k ys)
-      (put_next p q (omega arith) (omega (arith, ap length u, length-drop k ys)))
-
-pub ruleset few-copying = (few-long, few-room, length-take-le, copy-both)
+pub ruleset turning = (turns-next, turns-end)
 
 pub ruleset behind = (first-room, second-room, both_end, next-room, other-room, both-put)
-
-pub ruleset copying = (write-begins, write-room, copy-next, write-ends)
-
-pub ruleset parts-copying = (write-begins, part_room, copy-part, last-room, copy-last)
 
 -- the same from the start of a buffer
 module _ {A : Type 0} where

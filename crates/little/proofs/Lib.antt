@@ -2,5 +2,4 @@ pub mod Filling
 pub mod Reading
 pub mod Comparing
 pub mod Tests
-pub mod Parting
 pub mod Promise

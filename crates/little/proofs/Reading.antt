@@ -1,21 +1,20 @@
 -- Laws of little-endian numbers, for every width: a number is its first byte and the rest, and reading back what was put gives it
 -- again. Assumes nothing.
-use mathlib.Core.Path.{◌≡◌, refl, sym, ap, ◌∙◌, subst}
+use mathlib.Core.Path.{◌≡◌, refl, sym, ap, ◌∙◌}
 use mathlib.Core.List.{List, [], ◌∷◌, ◌++◌}
 use Prim.Native.Nat.{ℕ, zero, suc, ◌+◌, ◌*◌, ◌/◌, ◌%◌, ◌^◌, ◌≤◌, ◌<◌}
-use native.Mathlib.Nat.{pow-suc, one-le-pow, div-lt_iff_lt-mul}
+use native.Mathlib.Nat.{add-zero, pow-suc, one-le-pow, div-lt_iff_lt-mul}
 use native.Mathlib.Numerals.{add-one, add-two, add-three}
 use native.Mathlib.Omega.{arith}
 use lib.Dec.{T, ltb, ltb→lt, lt→ltb, lit<}
 use lib.Pow.{are_bytes}
-use lib.ListN.{length, take, drop, get_or, set, get_or-eq_default, drop_of_length-le, length-set}
-use lib.Seq.{take-nil, take_at, drop-cons, drop-drop}
-use mir.Syntax.{w8}
+use lib.ListN.{length, take, drop, get_or, get_or-eq_default}
+use lib.Seq.{take_at, drop-cons, drop-drop}
+use mir.Syntax.{w8, w16, w32}
 use mir.Val.{Fits}
 use mir.Facts.{and_yes, yes_and}
+use Rattle.std.specs.Int.{from_le_bytes, to_le_bytes}
 use Rattle.little.specs.Numbers.{number_in, number_at, bytes_of}
-use Rattle.little.specs.Writing.{Put}
-use Rattle.little.proofs.Filling.{two-stores, four-stores, four-parts}
 
 -- one byte more in front
 pub number_more : (n : ℕ) (s : List ℕ) (at : ℕ) → number_at (suc n) s at ≡ get_or s at 0 + 256 * number_at n s (suc at)
@@ -56,9 +55,16 @@ module _ (s : List ℕ) (at : ℕ) where
   pub byte_past : length s ≤ at → 0 ≡ get_or s at 0
   byte_past h = sym (get_or-eq_default s 0 h)
 
-  pub number_past : (n : ℕ) → length s ≤ at → 0 ≡ number_at n s at
-  unfolding number_at number_in
-  number_past n h = sym (ap (λ (l : List ℕ). number_in (take n l)) (drop_of_length-le s h) ∙ ap number_in (take-nil n))
+-- the same where the code has read the bytes into bs, by the library's word for the number that they say
+pub two_say : (bs s : List ℕ) (at : ℕ) → ((k : ℕ) → k < 2 → get_or bs k 0 ≡ get_or s (at + k) 0) → from_le_bytes w16 bs ≡ number_at 2 s at
+two_say bs s at h =
+    let e = two_bytes s at (rw add-zero at (h 0 (omega arith))) (h 1 (omega arith)) in
+    omega arith
+
+pub four_say : (bs s : List ℕ) (at : ℕ) → ((k : ℕ) → k < 4 → get_or bs k 0 ≡ get_or s (at + k) 0) → from_le_bytes w32 bs ≡ number_at 4 s at
+four_say bs s at h =
+    let e = four_bytes s at (rw add-zero at (h 0 (omega arith))) (h 1 (omega arith)) (h 2 (omega arith)) (h 3 (omega arith)) in
+    omega arith
 
 -- ---- a number and its bytes
 pub length-bytes : (n v : ℕ) → length (bytes_of n v) ≡ n
@@ -94,23 +100,17 @@ bytes-at (suc n) s i h b =
     let r : number_at (suc n) s i / 256 ≡ number_at n s (suc i) = omega arith in
     rw (l, r, drop-cons s i 0 (omega arith)) (ap (λ (m : List ℕ). get_or s i 0 ∷ m) (bytes-at n s (suc i) (omega arith) b))
 
--- a number read at a place i of s is put: its bytes stand as they are in s
-module _ (s : List ℕ) (b : (k : ℕ) → Fits w8 (get_or s k 0)) where
-  pub copied : (n : ℕ) {d e : List ℕ} {at v : ℕ} (i : ℕ) → i + n ≤ length s → v ≡ number_at n s i → Put d at (bytes_of n v) e → Put d at (take n (drop i s)) e
-  copied n {d} {e} {at} i h q p = subst (λ (l : List ℕ). Put d at l e) (ap (bytes_of n) q ∙ bytes-at n s i h b) p
+-- by the library's word for the bytes of a number
+pub two_of : (v : ℕ) → to_le_bytes w16 v ≡ bytes_of 2 v
+unfolding bytes_of
+two_of v = refl
 
-  -- four numbers, in the words of the code
-  pub sixteen-copied : {d a₁ a₂ a₃ e : List ℕ} {at x y z w : ℕ} (i : ℕ)
-      → x ≡ number_at 4 s i → y ≡ number_at 4 s (i + 4) → z ≡ number_at 4 s (i + 8) → w ≡ number_at 4 s (i + 12)
-      → Put d at (bytes_of 4 x) a₁ → Put a₁ (at + 4) (bytes_of 4 y) a₂ → Put a₂ (at + 8) (bytes_of 4 z) a₃ → Put a₃ (at + 12) (bytes_of 4 w) e
-      → at + 16 ≤ length d → i + 16 ≤ length s → Put d at (take 16 (drop i s)) e
-  sixteen-copied i p q r t f g h k room there =
-      four-parts 4 s i (i + 4) (i + 8) (i + 12)
-      (copied 4 i (omega arith) p f)
-      (copied 4 (i + 4) (omega arith) q g)
-      (copied 4 (i + 8) (omega arith) r h)
-      (copied 4 (i + 12) (omega arith) t k)
-      refl (omega arith) (omega arith) refl (omega arith) (omega arith) (omega arith) (omega arith)
+pub four_of : (v : ℕ) → to_le_bytes w32 v ≡ bytes_of 4 v
+unfolding bytes_of
+four_of v =
+    let e : v / 65536 ≡ v / 256 / 256 = omega arith in
+    let f : v / 16777216 ≡ v / 256 / 256 / 256 = omega arith in
+    rw (e, f)
 
 -- ---- where a number stands in a list: in a part, and at the front
 pub number-dropped : (n : ℕ) (s : List ℕ) (from at : ℕ) → number_at n (drop from s) at ≡ number_at n s (from + at)
@@ -120,24 +120,6 @@ number-dropped n s from at = ap (λ (l : List ℕ). number_in (take n l)) (drop-
 pub number-first : (n v : ℕ) (s : List ℕ) → v < 256 ^ n → number_at n (bytes_of n v ++ s) 0 ≡ v
 unfolding number_at
 number-first n v s h = ap number_in (take_at (bytes_of n v) s n (length-bytes n v)) ∙ bytes-say n v h
-
--- in the words of the code: the stores of two bytes and of four
-module _ {d : List ℕ} {at : ℕ} (v : ℕ) where
-  pub put_two : at + 2 ≤ length d → Put d at (bytes_of 2 v) (set (set d at (v % 256)) (at + 1) (v / 256 % 256))
-  unfolding bytes_of
-  put_two h = two-stores h
-
-  pub put_four : at + 4 ≤ length d
-      → Put d at (bytes_of 4 v) (set (set (set (set d at (v % 256)) (at + 1) (v / 256 % 256)) (at + 2) (v / 65536 % 256)) (at + 3) (v / 16777216 % 256))
-  unfolding bytes_of
-  put_four h =
-      let e : v / 65536 ≡ v / 256 / 256 = omega arith in
-      let f : v / 16777216 ≡ v / 256 / 256 / 256 = omega arith in
-      rw (e, f) (four-stores h)
-
-pub ruleset reading = (two_bytes, four_bytes, byte_past, number_past)
-
-pub ruleset putting = (put_two, put_four, length-set)
 
 -- ---- parts of bytes are bytes, so is what they make up and what is put for a number, and a number of n bytes fits them
 pub taken-bytes : (n : ℕ) (s : List ℕ) → T (are_bytes s) → T (are_bytes (take n s))

@@ -1,6 +1,6 @@
 -- Laws of the headers of a block: the check of the predictors, and a channel as its header says. Assumes nothing.
 use mathlib.Core.Path.{◌≡◌, ◌∙◌}
-use mathlib.Core.Bool.{Bool, true, false, ◌&&◌}
+use mathlib.Core.Bool.{Bool, true, ◌&&◌}
 use mathlib.Core.List.{List, [], ◌∷◌}
 use Prim.Native.Nat.{ℕ, zero, suc, ◌+◌, ◌*◌, ◌≤◌, ◌<◌}
 use native.Mathlib.Nat.{le_trans}
@@ -11,33 +11,16 @@ use lib.ListN.{get_or}
 use mir.Syntax.{w16, w32}
 use mir.Val.{SFits}
 use mir.Facts.{to_z-of_z, and_yes}
-use borrow.Author.Tests.{leb-true, lt-leb, le-leb}
+use borrow.Author.Tests.{leb-true}
 use Rattle.formats.specs.Format.{pairs}
-use Rattle.codec.specs.Codec.{Decodable, headers_valid}
-use Rattle.codec.proofs.Channels.{first-refused, only-valid, second-decides, each-valid}
+use Rattle.codec.specs.Codec.{Decodable}
+use Rattle.codec.proofs.Channels.{each-valid}
 use Rattle.ms_code.specs.declared.MsState.{MsState}
 use Rattle.ms_code.specs.Nibble.{Tame}
 use Rattle.samples.specs.Sound.{sample_at}
 use Rattle.samples.proofs.Signed.{back, Near, near_fits, fits-near}
 use Rattle.samples.proofs.Laws.{widened, wide_is}
 use Rattle.ms_block.specs.Block.{predictor_of, coefficient, ms_opened, microsoft}
-
--- ---- the check of the headers, which may refuse above any k from 6 on
-module _ (s : List ℕ) {c : ℕ} (l : 1 ≤ c) (u : c ≤ 2) where
-  pub fine-first : {k : ℕ} → k < get_or s 0 0 → 6 ≤ k → false ≡ headers_valid microsoft c s
-  unfolding predictor_of
-  fine-first g i = first-refused microsoft s l (lt-leb (get_or s 0 0) 6 (omega arith))
-
-  module _ (a : get_or s 0 0 ≤ 6) where
-    pub fine-mono : c ≡ 1 → true ≡ headers_valid microsoft c s
-    unfolding predictor_of
-    fine-mono e = only-valid microsoft s l (le-leb (get_or s 0 0) 6 a) e
-
-    pub fine-both : (c ≡ 1 → ⊥) → leb (get_or s 1 0) 6 ≡ headers_valid microsoft c s
-    unfolding predictor_of
-    fine-both n = second-decides microsoft s l u (le-leb (get_or s 0 0) 6 a) n
-
-pub ruleset checking = (fine-first, fine-mono, fine-both)
 
 -- what a valid header promises
 pub predictor-at : {c n : ℕ} {s : List ℕ} (ch : ℕ) → Decodable microsoft c n s → ch < c → get_or s ch 0 ≤ 6
@@ -81,12 +64,6 @@ module _ (predictor : ℕ) where
   second_fits : SFits w16 (pair_of predictor 1)
   second_fits = near_fits near-second tt
 
-  pub first-widens : SFits w32 (back w16 (pair_of predictor 0))
-  first-widens = widened first_fits
-
-  pub second-widens : SFits w32 (back w16 (pair_of predictor 1))
-  second-widens = widened second_fits
-
 -- ---- a channel as its header says
 abbrev headed : ℕ → ℤ → ℤ → ℤ → MsState
 headed predictor d x y =
@@ -120,4 +97,4 @@ module _ {d : ℤ} (f : SFits w16 d) where
         older = (to_z-of_z h ∙ k) q;
       }
 
-pub ruleset opening = (widened, first-widens, second-widens, headed-is, headed-tame)
+pub ruleset opening = (widened, headed-is, headed-tame)

@@ -1,22 +1,22 @@
 -- What a nibble does to a channel, in the words of the code: each product fits 32 bits by the sizes of its factors.
 -- Assumes nothing.
 use mathlib.Core.Path.{◌≡◌, refl, ◌∙◌, ap}
-use mathlib.Core.Bool.{Bool, true, false, cond, ◌&&◌}
+use mathlib.Core.Bool.{Bool, true, cond, ◌&&◌}
 use mathlib.Core.List.{List, [], ◌∷◌}
 use Prim.Native.Nat.{ℕ, zero, suc, ◌≤◌, ◌<◌}
-use native.Mathlib.Nat.{le_refl, le_of_lt}
 use native.Mathlib.Omega.{arith}
 use lib.Dec.{T, leb, leb→le}
 use lib.IntN.{ℤ, pos, nat_abs, ◌+ℤ◌, ◌-ℤ◌, ◌*ℤ◌}
-use lib.Signed.{lt_z, quot_z}
+use lib.Signed.{quot_z}
 use lib.ListN.{get_or}
 use mir.Syntax.{w16, w32}
-use mir.Val.{SFits, to_z}
-use mir.Facts.{to_z-of_z, to_z_pos, and_yes}
-use borrow.Author.Tests.{lt-ltb, le-ltb}
+use mir.Val.{SFits}
+use mir.Facts.{to_z-of_z, and_yes}
+use Rattle.std.specs.Int.{int_max, int_min}
+use Rattle.std.proofs.lemmas.Int.{ints}
 use Rattle.samples.specs.Sound.{hold}
-use Rattle.samples.proofs.Signed.{by-ltb, is_pos, is-minus, is-abs, signed, not-less, back, Near, near_fits, fits-near, near-pos, near_add, near_sub, near_mul, near-quot}
-use Rattle.samples.proofs.Laws.{widened, wide_is}
+use Rattle.samples.proofs.Signed.{by-ltb, is_pos, is-minus, is-abs, back, Near, near_fits, fits-near, near-pos, near_add, near_mul, near-quot}
+use Rattle.samples.proofs.Laws.{wide_is}
 use Rattle.ms_code.specs.declared.MsState.{MsState}
 use Rattle.ms_code.specs.Nibble.{factors, signed_nibble, predicted, sample_after, held_delta, delta_after, after_nibble, Tame}
 
@@ -31,29 +31,13 @@ module _ {k : ℕ} (h : k < 16) where
       by-ltb k 8 (λ c. Near (cond c (pos k) (pos k -ℤ pos 16)) 8) (λ l. near-pos (omega arith))
       (λ l. record { near = omega (arith, is-abs (is-minus (is_pos k) (is_pos 16))) })
 
-  plain : to_z w32 k ≡ pos k
-  plain = to_z_pos w32 {n = k} (omega arith)
-
-  pub nibble-fits : SFits w32 (to_z w32 k -ℤ pos 16)
-  nibble-fits = rw plain (near_fits (near_sub (near-pos (le_of_lt h)) (near-pos (le_refl 16))) tt)
-
-  pub nibble-low : k < 8 → to_z w32 k ≡ signed_nibble k
-  unfolding signed_nibble
-  nibble-low l = plain ∙ simp (lt-ltb k 8 l)
-
-  pub nibble-high : 8 ≤ k → back w32 (to_z w32 k -ℤ pos 16) ≡ signed_nibble k
-  unfolding signed_nibble
-  nibble-high l = to_z-of_z nibble-fits ∙ rw plain (simp (le-ltb k 8 l))
-
-pub ruleset nibbles = (nibble-low, nibble-fits, nibble-high)
-
 -- ---- the prediction
 -- a product of a sample and a number of 32 bits, as the machine works it
 abbrev worked : ℤ → ℤ → ℤ
-worked x c = back w32 (back w16 x) *ℤ back w32 c
+worked u c = back w32 u *ℤ back w32 c
 
-worked-is : {x c : ℤ} → SFits w16 x → SFits w32 c → worked x c ≡ x *ℤ c
-worked-is f g = rw (wide_is f, to_z-of_z g) refl
+worked-is : {x u c : ℤ} → SFits w16 x → u ≡ back w16 x → SFits w32 c → worked u c ≡ x *ℤ c
+worked-is f e g = rw (e, wide_is f, to_z-of_z g) refl
 
 module _ {t : MsState} (g : Tame t) (n : SFits w16 t.newer) (o : SFits w16 t.older) where
   near-newer : Near (t.newer *ℤ t.first) 16777216
@@ -69,18 +53,19 @@ module _ {t : MsState} (g : Tame t) (n : SFits w16 t.newer) (o : SFits w16 t.old
   unfolding predicted
   near-predicted = near-quot 256 98304 tt near-sum
 
-  module _ (a : SFits w32 t.first) (b : SFits w32 t.second) where
-    pub newer-fits : SFits w32 (worked t.newer t.first)
-    newer-fits = rw (worked-is n a) (near_fits near-newer tt)
+  -- the samples are read as u and v
+  module _ {u v : ℤ} (p : u ≡ back w16 t.newer) (q : v ≡ back w16 t.older) (a : SFits w32 t.first) (b : SFits w32 t.second) where
+    newer-fits : SFits w32 (worked u t.first)
+    newer-fits = rw (worked-is n p a) (near_fits near-newer tt)
 
-    pub older-fits : SFits w32 (worked t.older t.second)
-    older-fits = rw (worked-is o b) (near_fits near-older tt)
+    older-fits : SFits w32 (worked v t.second)
+    older-fits = rw (worked-is o q b) (near_fits near-older tt)
 
     abbrev sum : ℤ
-    sum = back w32 (worked t.newer t.first) +ℤ back w32 (worked t.older t.second)
+    sum = back w32 (worked u t.first) +ℤ back w32 (worked v t.second)
 
     sum_is : sum ≡ t.newer *ℤ t.first +ℤ t.older *ℤ t.second
-    sum_is = rw (to_z-of_z newer-fits, to_z-of_z older-fits, worked-is n a, worked-is o b) refl
+    sum_is = rw (to_z-of_z newer-fits, to_z-of_z older-fits, worked-is n p a, worked-is o q b) refl
 
     pub sum_fits : SFits w32 sum
     sum_fits = rw sum_is (near_fits near-sum tt)
@@ -89,44 +74,18 @@ module _ {t : MsState} (g : Tame t) (n : SFits w16 t.newer) (o : SFits w16 t.old
     unfolding predicted
     quotient_is = rw (to_z-of_z sum_fits, sum_is) refl
 
-    pub quotient_fits : SFits w32 (quot_z (back w32 sum) (pos 256))
+    quotient_fits : SFits w32 (quot_z (back w32 sum) (pos 256))
     quotient_fits = rw quotient_is (near_fits near-predicted tt)
 
     pub predicted-is : back w32 (quot_z (back w32 sum) (pos 256)) ≡ predicted t
     predicted-is = to_z-of_z quotient_fits ∙ quotient_is
 
-pub ruleset predicting = (widened, newer-fits, older-fits, sum_fits, quotient_fits, predicted-is)
+pub ruleset predicting = (sum_fits, predicted-is)
 
 -- ---- a delta, held
-module _ {z : ℤ} (f : SFits w32 z) where
-  pub delta-low : lt_z (back w32 z) (pos 16) ≡ true → pos 16 ≡ held_delta z
-  unfolding held_delta
-  delta-low e = let g = rw (to_z-of_z f) at e in simp g
-
-  module _ (l : lt_z (back w32 z) (pos 16) ≡ false) where
-    pub delta-high : lt_z (pos 2796202) (back w32 z) ≡ true → pos 2796202 ≡ held_delta z
-    unfolding held_delta
-    delta-high e =
-        let g = rw (to_z-of_z f) at e in
-        let k = rw (to_z-of_z f) at l in
-        simp (g, k)
-
-    module _ (h : lt_z (pos 2796202) (back w32 z) ≡ false) where
-      pub delta-is : back w32 z ≡ held_delta z
-      unfolding held_delta
-      delta-is =
-          let g = rw (to_z-of_z f) at h in
-          let k = rw (to_z-of_z f) at l in
-          to_z-of_z f ∙ simp (g, k)
-
-      pub delta-most : nat_abs (back w32 z) ≤ 2796202
-      delta-most =
-          let p = signed w32 f in
-          let a = not-less (is_pos 2796202) p.is (rw (to_z-of_z f) at h) in
-          let b = not-less p.is (is_pos 16) (rw (to_z-of_z f) at l) in
-          rw (to_z-of_z f) (omega (arith, is-abs p.is, a, b))
-
-pub ruleset deltas = (delta-low, delta-high, delta-is, delta-most)
+pub clamped : (z : ℤ) → int_max (pos 16) (int_min z (pos 2796202)) ≡ held_delta z
+unfolding held_delta
+clamped z = grind (arith, ints)
 
 -- ---- the factors: one test that is computed over all sixteen, and the rule that it gives at each
 abbrev all_near : ℕ → List ℤ → Bool
@@ -143,12 +102,12 @@ near-factor k = near-at 768 factors tt k
 
 -- ---- the delta after a nibble, and what a nibble adds to the prediction
 module _ {d : ℤ} (f : SFits w32 d) (g : nat_abs d ≤ 2796202) where
-  module _ {l : List ℤ} (e : l ≡ factors) (k : ℕ) where
+  module _ (k : ℕ) {r : ℤ} (e : r ≡ get_or factors k (pos 0)) where
     near-grown : Near (d *ℤ get_or factors k (pos 0)) 2147483136
     near-grown = near_mul (near-size d g) (near-factor k)
 
     abbrev grown : ℤ
-    grown = back w32 d *ℤ back w32 (get_or l k (pos 0))
+    grown = back w32 d *ℤ back w32 r
 
     grown-is : grown ≡ d *ℤ get_or factors k (pos 0)
     grown-is = rw (e, to_z-of_z f, to_z-of_z (near_fits {w = w32} (near-factor k) tt)) refl
@@ -195,7 +154,7 @@ module _ {d : ℤ} (f : SFits w32 d) (g : nat_abs d ≤ 2796202) where
       unfolding sample_after
       sample-after q m u = to_z-of_z m ∙ u ∙ ap hold (to_z-of_z added-fits ∙ added_is ∙ rw q refl)
 
-pub ruleset products = (grown-fits, next_fits, move-fits, added-fits)
+pub ruleset products = (grown-fits, move-fits, added-fits)
 
 -- ---- the channel after a nibble
 module _ (t : MsState) (a : SFits w32 t.first) (b : SFits w32 t.second) where

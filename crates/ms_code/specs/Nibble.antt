@@ -1,5 +1,5 @@
 -- One Microsoft nibble: the prediction, and the channel after it. Assumes nothing.
-use Rattle.std.specs.Prelude.{ℕ, ◌≤◌, ◌≡◌, cond, List, [], ◌∷◌, ltb, ℤ, pos, nat_abs, ◌+ℤ◌, ◌-ℤ◌, ◌*ℤ◌, get_or}
+use Rattle.std.specs.Prelude.{ℕ, ◌≤◌, cond, List, [], ◌∷◌, ltb, ℤ, pos, nat_abs, ◌+ℤ◌, ◌-ℤ◌, ◌*ℤ◌, get_or}
 use Rattle.std.specs.Int.Signed.{lt_z, quot_z}
 use Rattle.samples.specs.Sound.{hold}
 use Rattle.ms_code.specs.declared.MsState.{MsState}
@@ -9,10 +9,6 @@ abbrev pub factors : List ℤ
 factors =
     pos 230 ∷ pos 230 ∷ pos 230 ∷ pos 230 ∷ pos 307 ∷ pos 409 ∷ pos 512 ∷ pos 614
     ∷ pos 768 ∷ pos 614 ∷ pos 512 ∷ pos 409 ∷ pos 307 ∷ pos 230 ∷ pos 230 ∷ pos 230 ∷ []
-
--- what a table of them holds that code is lent
-abbrev pub IsFactors : List ℤ → Type 0
-IsFactors table = table ≡ factors
 
 -- a nibble as a signed number of four bits
 unfoldable pub signed_nibble : ℕ → ℤ

@@ -6,14 +6,10 @@ use Prim.Native.Nat.{ℕ}
 use lib.ListN.{length}
 use Rattle.lists.proofs.Laws.{and_both}
 use Rattle.units.specs.declared.Refusal.{Refusal}
-use Rattle.units.specs.declared.Verdict.{Verdict}
-use Rattle.units.specs.declared.Verdict.TheVariants.{Accepted, Refused}
 use Rattle.units.specs.Checks.{AllMet}
 use Rattle.units.proofs.Checks.{all-met}
 use Rattle.riff.specs.declared.Directory.{Directory}
-use Rattle.riff.specs.declared.Walked.{Walked}
-use Rattle.riff.specs.declared.Walked.TheVariants.{Whole, Stopped}
-use Rattle.riff.specs.Chunks.{is_there, pad_lost}
+use Rattle.riff.specs.Chunks.{is_there, pad_lost, Walked}
 use Rattle.riff.specs.Walk.{directory_of}
 use Rattle.formats.specs.Format.{format_form}
 use Rattle.formats.specs.Frames.{fact_form, Sounding}
@@ -21,11 +17,12 @@ use Rattle.tables.specs.Cues.{names_in, cues_form}
 use Rattle.tables.specs.Plays.{plays_form}
 use Rattle.titles.specs.Lists.{list_valid}
 use Rattle.rules.specs.declared.Record.{Record}
-use Rattle.rules.specs.declared.Reading.{Reading}
-use Rattle.rules.specs.Rules.{valid, chunk_checks, Writable}
+use Rattle.rules.specs.Rules.{valid, chunk_checks, Writable, record_in, reading_verdict, Reading}
 use Rattle.reader.specs.Content.{Content, refused, holds, content_by, format_part, sound_part, sound_size, fact_part, cue_part, playlist_part, titles_part, record_at, titles_valid, chunks_checks, checks_at, verdict_at, content_in, content_of, reading, sound_in}
 use Rattle.reader.specs.Demands.{Tied}
 use Rattle.reader.proofs.Demands.{tied}
+use Rattle.units.specs.Refusals.{Verdict}
+use Rattle.std.specs.Prelude.{Err, Ok}
 
 both : {a b : Bool} → valid a b ≡ true → (a ≡ true) × (b ≡ true)
 unfolding valid
@@ -34,10 +31,10 @@ both {a} {b} e = and_both a b e
 -- ---- a file that is taken: where its chunks stand, and what they say
 pub record Held (s : List ℕ) (m : Record) (w : List ℕ) : Type 0 where
   pub places : Directory
-  pub walked : directory_of s ≡ Whole places
+  pub walked : directory_of s ≡ Ok places
   pub format_there : is_there places.format ≡ true
   pub sound_there : is_there places.sound ≡ true
-  pub verdict : verdict_at s places ≡ Accepted
+  pub verdict : verdict_at s places ≡ Ok tt
   pub made : record_at s places ≡ m
   pub sound : sound_part s places ≡ w
 
@@ -49,15 +46,15 @@ held_in : (s : List ℕ) → HeldIn s (content_of s)
 unfolding content_of checks_at AllMet
 held_in s = by (directory_of s) refl
   where
-    at : (d : Directory) (v : Verdict) → directory_of s ≡ Whole d → verdict_at s d ≡ v → HeldIn s (content_by v (record_at s d) (sound_part s d))
-    at d Accepted e h =
+    at : (d : Directory) (v : Verdict) → directory_of s ≡ Ok d → verdict_at s d ≡ v → HeldIn s (content_by v (record_at s d) (sound_part s d))
+    at d (Ok _) e h =
         let a = all-met (checks_at s d) h in
         record { places = d; walked = e; format_there = a.0; sound_there = a.1.0; verdict = h; made = refl; sound = refl }
-    at d (Refused r) e h = tt
+    at d (Err r) e h = tt
 
     by : (w : Walked) → directory_of s ≡ w → HeldIn s (content_in s w)
-    by (Whole d) e = at d (verdict_at s d) e refl
-    by (Stopped r) e = tt
+    by (Ok d) e = at d (verdict_at s d) e refl
+    by (Err r) e = tt
 
 pub held : (s : List ℕ) {m : Record} {w : List ℕ} → holds m w ≡ content_of s → Held s m w
 held s e = subst (HeldIn s) (sym e) (held_in s)
@@ -71,7 +68,7 @@ pub record Formed (s : List ℕ) (d : Directory) : Type 0 where
   pub rules : Writable (record_at s d) (sound_size s d)
   pub titles : titles_valid s d ≡ true
 
-pub formed : (s : List ℕ) (d : Directory) → verdict_at s d ≡ Accepted → Formed s d
+pub formed : (s : List ℕ) (d : Directory) → verdict_at s d ≡ Ok tt → Formed s d
 unfolding checks_at chunks_checks chunk_checks AllMet
 formed s d e =
     let a = (all-met (checks_at s d) e).1.1 in
@@ -94,18 +91,18 @@ titles-valid s d f = (and_both (not d.second) (list_valid (pad_lost d.titles) (t
 
 -- ---- in the words of callers
 module _ (s : List ℕ) {x : Reading} (e : x ≡ reading s) where
-  told : {v : Verdict} → x.verdict ≡ v → content_by v x.made (sound_in s) ≡ content_of s
+  told : {v : Verdict} → reading_verdict x ≡ v → content_by v (record_in x) (sound_in s) ≡ content_of s
   unfolding Tied
   told {v} h =
-      ap (λ (u : Verdict). content_by u x.made (sound_in s)) (sym h)
-      ∙ ap (λ (y : Reading). content_by y.verdict y.made (sound_in s)) e
+      ap (λ (u : Verdict). content_by u (record_in x) (sound_in s)) (sym h)
+      ∙ ap (λ (y : Reading). content_by (reading_verdict y) (record_in y) (sound_in s)) e
       ∙ tied s
 
-  pub content-refused : {r : Refusal} → x.verdict ≡ Refused r → refused r ≡ content_of s
+  pub content-refused : {r : Refusal} → reading_verdict x ≡ Err r → refused r ≡ content_of s
   content-refused h = told h
 
-  pub content-taken : {w : List ℕ} → x.verdict ≡ Accepted → w ≡ sound_in s → holds x.made w ≡ content_of s
-  content-taken h g = ap (holds x.made) g ∙ told h
+  pub content-taken : {w : List ℕ} → reading_verdict x ≡ Ok tt → w ≡ sound_in s → holds (record_in x) w ≡ content_of s
+  content-taken h g = ap (holds (record_in x)) g ∙ told h
 
 -- what a file holds keeps the rules
 pub content-rules : (s : List ℕ) {m : Record} {w : List ℕ} → holds m w ≡ content_of s → Writable m (record { 0 = length w })

@@ -1,17 +1,11 @@
 -- What a file holds: a record, the texts of its titles and its sound, or the refusal. Assumes nothing.
-use Rattle.std.specs.Prelude.{ℕ, Bool, not, cond, ◌&&◌, List, [], ◌∷◌, ◌++◌, leb, length}
+use Rattle.std.specs.Prelude.{ℕ, Bool, not, cond, ◌&&◌, List, [], ◌∷◌, ◌++◌, leb, length, Option, None, Result, Ok, Err}
 use Rattle.units.specs.declared.BytePlace.{BytePlace}
 use Rattle.units.specs.declared.Refusal.{Refusal}
 use Rattle.units.specs.declared.Refusal.TheVariants.{FormatOrDataMissing, OutputTooSmall, TitlesWrong}
-use Rattle.units.specs.declared.Verdict.{Verdict}
-use Rattle.units.specs.declared.Verdict.TheVariants.{Accepted, Refused}
 use Rattle.units.specs.Checks.{Check, check, decided}
 use Rattle.riff.specs.declared.Directory.{Directory}
-use Rattle.riff.specs.declared.Spot.{Spot}
-use Rattle.riff.specs.declared.Spot.TheVariants.{Missing}
-use Rattle.riff.specs.declared.Walked.{Walked}
-use Rattle.riff.specs.declared.Walked.TheVariants.{Whole, Stopped}
-use Rattle.riff.specs.Chunks.{is_there, pad_lost}
+use Rattle.riff.specs.Chunks.{is_there, pad_lost, Spot, Walked}
 use Rattle.riff.specs.Walk.{part_of, start_of, directory_of}
 use Rattle.formats.specs.declared.Format.{Format}
 use Rattle.formats.specs.Format.{format_of}
@@ -20,8 +14,9 @@ use Rattle.tables.specs.Cues.{names_in}
 use Rattle.titles.specs.Titles.{Entry, texts_of}
 use Rattle.titles.specs.Lists.{entries_in, list_valid, titles_of}
 use Rattle.rules.specs.declared.Record.{Record}
-use Rattle.rules.specs.declared.Reading.{Reading}
-use Rattle.rules.specs.Rules.{ChunkBytes, record_of, with_titles, chunk_checks, turned_away, reading_by}
+use Rattle.reader.specs.declared.Opened.{Opened}
+use Rattle.rules.specs.Rules.{ChunkBytes, record_of, with_titles, chunk_checks, reading_by, record_in, reading_verdict, Reading}
+use Rattle.units.specs.Refusals.{Verdict}
 
 -- ---- the bytes of each chunk
 
@@ -64,8 +59,8 @@ pub data Content : Type 0 where
 
 -- a record and its sound where the verdict takes them
 abbrev pub content_by : Verdict → Record → List ℕ → Content
-content_by Accepted m w = holds m w
-content_by (Refused r) m w = refused r
+content_by (Ok _) m w = holds m w
+content_by (Err r) m w = refused r
 
 -- what the chunks say
 abbrev pub record_at : List ℕ → Directory → Record
@@ -82,7 +77,7 @@ chunks_checks s d = chunk_checks (chunks_at s d) (record_at s d) ++ (check (titl
 -- what functions of the code answer: a record with the titles of a list; and what chunks say that are there
 unfoldable pub titled : Record → Bool → List ℕ → Reading
 titled m lost l =
-    cond (list_valid lost l (names_in m.cues)) (record { verdict = Accepted; made = with_titles m (titles_of l) }) (turned_away TitlesWrong)
+    cond (list_valid lost l (names_in m.cues)) (Ok (with_titles m (titles_of l))) (Err TitlesWrong)
 
 unfoldable pub judged_at : List ℕ → Directory → Reading
 judged_at s d = reading_by (decided (chunks_checks s d)) (record_at s d)
@@ -102,8 +97,8 @@ content_at s d = content_by (verdict_at s d) (record_at s d) (sound_part s d)
 
 -- 1 to 7, then 8 to 13 and 21
 abbrev pub content_in : List ℕ → Walked → Content
-content_in s (Whole d) = content_at s d
-content_in s (Stopped r) = refused r
+content_in s (Ok d) = content_at s d
+content_in s (Err r) = refused r
 
 unfoldable pub content_of : List ℕ → Content
 content_of s = content_in s (directory_of s)
@@ -111,8 +106,8 @@ content_of s = content_in s (directory_of s)
 -- ---- what the operations tell of it
 
 abbrev pub reading_of : Content → Reading
-reading_of (refused r) = turned_away r
-reading_of (holds m w) = record { verdict = Accepted; made = m }
+reading_of (refused r) = Err r
+reading_of (holds m w) = Ok m
 
 abbrev pub sound_of : Content → List ℕ
 sound_of (refused r) = []
@@ -126,23 +121,23 @@ sound_in s = sound_of (content_of s)
 
 -- the format of a file, and how many frames it has
 abbrev pub file_format : List ℕ → Format
-file_format s = (reading s).made.format
+file_format s = (record_in (reading s)).format
 
 abbrev pub file_frames : List ℕ → ℕ
-file_frames s = (reading s).made.frames.0
+file_frames s = (record_in (reading s)).frames.0
 
 -- where a chunk stands, where the file is accepted
 abbrev pub spot_by : (Directory → Spot) → Verdict → Walked → Spot
-spot_by which Accepted (Whole d) = which d
-spot_by which Accepted (Stopped r) = Missing
-spot_by which (Refused r) w = Missing
+spot_by which (Ok _) (Ok d) = which d
+spot_by which (Ok _) (Err r) = None
+spot_by which (Err r) w = None
 
 -- the sound: at the data of `data`
 abbrev pub sound_place : Directory → Spot
 sound_place d = d.sound
 
 unfoldable pub sound_spot : List ℕ → Spot
-sound_spot s = spot_by sound_place (reading s).verdict (directory_of s)
+sound_spot s = spot_by sound_place (reading_verdict (reading s)) (directory_of s)
 
 -- where in the file it starts; the empty sound of a refused file stands at the file's start
 unfoldable pub sound_start : List ℕ → ℕ
@@ -154,7 +149,7 @@ abbrev pub titles_place : Directory → Spot
 titles_place d = d.titles
 
 unfoldable pub titles_spot : List ℕ → Spot
-titles_spot s = spot_by titles_place (reading s).verdict (directory_of s)
+titles_spot s = spot_by titles_place (reading_verdict (reading s)) (directory_of s)
 
 unfoldable pub titles_in : List ℕ → List Entry
 titles_in s = entries_in (part_of s (titles_spot s) [])
@@ -162,6 +157,19 @@ titles_in s = entries_in (part_of s (titles_spot s) [])
 abbrev pub texts_in : List ℕ → List ℕ
 texts_in s = texts_of (titles_in s)
 
+-- what opening a file tells: what reading does, and where its sound and its list of titles stand; of a refused file, nowhere
+abbrev pub opened_reading : Result Opened Refusal → Reading
+opened_reading (Ok o) = Ok o.made
+opened_reading (Err r) = Err r
+
+abbrev pub opened_sound : Result Opened Refusal → Spot
+opened_sound (Ok o) = o.sound
+opened_sound (Err r) = None
+
+abbrev pub opened_titles : Result Opened Refusal → Spot
+opened_titles (Ok o) = o.titles
+opened_titles (Err r) = None
+
 -- reading with room for so many bytes of texts: 14, after all others, where there is less than they need
 unfoldable pub reading_in : List ℕ → ℕ → Reading
-reading_in s room = cond (leb (length (texts_in s)) room) (reading s) (turned_away OutputTooSmall)
+reading_in s room = cond (leb (length (texts_in s)) room) (reading s) (Err OutputTooSmall)

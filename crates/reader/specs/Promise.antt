@@ -3,15 +3,15 @@
 use Rattle.std.specs.Prelude.{ℕ, ◌+◌, ◌≡◌, List, length}
 use Rattle.little.specs.Writing.{holding}
 use Rattle.units.specs.Refusals.{verdict_number}
-use Rattle.rules.specs.declared.Reading.{Reading}
 use Rattle.reader.specs.Content.{reading_in, texts_in, sound_in, sound_start}
 use Rattle.reader.specs.Demands.{number_within}
+use Rattle.rules.specs.Rules.{reading_verdict, Reading}
 
 -- `read`: of a file s, with a lent buffer that held d, the answer r, which is a verdict and a record; and the buffer then holds e
 pub record ReadPromise (s d : List ℕ) (r : Reading) (e : List ℕ) : Type 0 where
   pub answer : r ≡ reading_in s (length d)
-  pub number : verdict_number r.verdict ≡ number_within s (length d)
-  pub buffer : e ≡ holding r.verdict (texts_in s) d
+  pub number : verdict_number (reading_verdict r) ≡ number_within s (length d)
+  pub buffer : e ≡ holding (reading_verdict r) (texts_in s) d
 
 unfoldable pub OneReading : Type 0
 OneReading =

@@ -14,16 +14,12 @@ use Rattle.codes.proofs.Bytes.{length-code}
 use Rattle.codes.proofs.Laws.{stands}
 use Rattle.codes.specs.declared.Code.{Code}
 use Rattle.codes.specs.declared.Code.TheVariants.{Riff, Wave, Format, Data, Fact, Cue, Playlist, Listing, Titles}
-use Rattle.units.specs.declared.Verdict.TheVariants.{Accepted}
 use Rattle.riff.specs.declared.Kind.{Kind}
 use Rattle.riff.specs.declared.Kind.TheVariants as kind
 use Rattle.riff.specs.declared.Pad.{Pad}
 use Rattle.riff.specs.declared.Place.{Place}
-use Rattle.riff.specs.declared.Spot.{Spot}
-use Rattle.riff.specs.declared.Spot.TheVariants.{At, Missing}
 use Rattle.riff.specs.declared.Directory.{Directory}
-use Rattle.riff.specs.declared.Walked.TheVariants.{Whole}
-use Rattle.riff.specs.Chunks.{head_verdict, kind_at, pad_after, pad_size, spot_of, is_there, directory, keep_titles, keep, early, wave_list}
+use Rattle.riff.specs.Chunks.{head_verdict, kind_at, pad_after, pad_size, spot_of, is_there, directory, keep_titles, keep, early, wave_list, Spot}
 use Rattle.riff.specs.Walk.{nothing_yet, walk_of, part_of}
 use Rattle.riff.specs.Laying.{Piece, piece, head_bytes, piece_bytes, body_bytes, riff_bytes, file_bytes, Part, Parts, given, pieces_of}
 use Rattle.riff.specs.Demands.{Reads}
@@ -33,6 +29,7 @@ use Rattle.riff.proofs.Placing.{place-whole, step-on}
 use Rattle.riff.proofs.Walking.{Rest, walk_begins, walk-on, walk_ends, open-walks}
 use Rattle.riff.proofs.Laying.{length-file}
 use Rattle.riff.proofs.Found.{behind, number-laid, kind-there, kind-titles, size-there, bytes-there, rest-there, fits-there}
+use Rattle.std.specs.Prelude.{None, Ok, Some}
 
 -- ---- the header
 module _ (ps : List Piece) where
@@ -57,7 +54,7 @@ module _ (ps : List Piece) where
   after-wave : drop 12 file ≡ body_bytes ps
   after-wave = behind file 8 (code_bytes Wave) _ 4 (length-code Wave) after-size
 
-  accepted : length file ≤ file_limit → Accepted ≡ head_verdict file
+  accepted : length file ≤ file_limit → Ok tt ≡ head_verdict file
   accepted limit =
       let l = length-file ps in
       let n : size ≡ number_at 4 file 4 = sym (number-laid file 4 size _ (omega arith) after-riff) in
@@ -73,7 +70,7 @@ record Stand (s : List ℕ) (at : ℕ) (d : Directory) (ps : List Piece) : Type 
 stand-begins : (ps : List Piece) → Stand (file_bytes ps) 12 nothing_yet ps
 stand-begins ps = record { rest = walk_begins (file_bytes ps) refl; upto = omega (arith, length-file ps); left = after-wave ps }
 
-stand-ends : {s : List ℕ} {at : ℕ} {d : Directory} → Stand s at d [] → Whole d ≡ walk_of s
+stand-ends : {s : List ℕ} {at : ℕ} {d : Directory} → Stand s at d [] → Ok d ≡ walk_of s
 unfolding body_bytes
 stand-ends {s} {at} w = walk_ends w.rest (omega (arith, length-drop at s, ap length w.left))
 
@@ -85,8 +82,8 @@ Kinded s c bytes k =
 module _ (s : List ℕ) (limit : length s ≤ file_limit) {R : Type 0} where
   -- the next chunk is met
   stand-on : {at : ℕ} {d : Directory} (c : Code) (k : Kind) (bytes : List ℕ) {ps : List Piece} → Stand s at d (piece c bytes ∷ ps)
-      → Kinded s c bytes k → spot_of d k ≡ Missing → early d k ≡ false → ((p : Place) → wave_list s p k ≡ false)
-      → ((p : Place) → part_of s (At p) [] ≡ bytes → Stand s p.next.0 (keep d p k) ps → R) → R
+      → Kinded s c bytes k → spot_of d k ≡ None → early d k ≡ false → ((p : Place) → wave_list s p k ≡ false)
+      → ((p : Place) → part_of s (Some p) [] ≡ bytes → Stand s p.next.0 (keep d p k) ps → R) → R
   unfolding body_bytes
   stand-on {at} {d} c k bytes {ps} w kinded new late plain go =
       let n : ℕ = length bytes in
@@ -108,20 +105,20 @@ module _ (s : List ℕ) (limit : length s ≤ file_limit) {R : Type 0} where
 
   -- the next chunk is met where it is written; the directory then holds its spot
   stand-given : {at : ℕ} (c : Code) (k : Kind) (x : Part) {ps : List Piece} (hold : Spot → Directory)
-      → Stand s at (hold Missing) (given c x ps) → Kinded s c x.bytes k → ((p : Place) → hold (At p) ≡ keep (hold Missing) p k)
-      → spot_of (hold Missing) k ≡ Missing → early (hold Missing) k ≡ false → ((p : Place) → wave_list s p k ≡ false)
+      → Stand s at (hold None) (given c x ps) → Kinded s c x.bytes k → ((p : Place) → hold (Some p) ≡ keep (hold None) p k)
+      → spot_of (hold None) k ≡ None → early (hold None) k ≡ false → ((p : Place) → wave_list s p k ≡ false)
       → ((to : ℕ) (spot : Spot) → ((absent : List ℕ) → part_of s spot absent ≡ cond x.there x.bytes absent) → Stand s to (hold spot) ps → R)
       → R
   unfolding given
   stand-given {at} c k x {ps} hold w kinded kept new late plain = by x.there w
     where
-      by : (b : Bool) → Stand s at (hold Missing) (cond b (piece c x.bytes ∷ ps) ps)
+      by : (b : Bool) → Stand s at (hold None) (cond b (piece c x.bytes ∷ ps) ps)
           → ((to : ℕ) (spot : Spot) → ((absent : List ℕ) → part_of s spot absent ≡ cond b x.bytes absent) → Stand s to (hold spot) ps → R)
           → R
       by true v go =
           stand-on c k x.bytes v kinded new late plain
-          (λ p e u. go p.next.0 (At p) (λ absent. e) (subst (λ (d : Directory). Stand s p.next.0 d ps) (sym (kept p)) u))
-      by false v go = go at Missing (λ absent. refl) v
+          (λ p e u. go p.next.0 (Some p) (λ absent. e) (subst (λ (d : Directory). Stand s p.next.0 d ps) (sym (kept p)) u))
+      by false v go = go at None (λ absent. refl) v
 
 -- ---- the chunks of a WAVE file, in the order of writing; what is laid as a list of titles starts with `adtl`
 pub laid-reads : (p : Parts) (body : List ℕ) → p.titles.bytes ≡ code_bytes Titles ++ body
@@ -131,19 +128,19 @@ laid-reads p body starts limit =
     let s : List ℕ = file_bytes (pieces_of p) in
     stand-on s limit Format kind.Format p.format
     (stand-begins (pieces_of p)) (λ at r h. kind-there s at Format p.format r) refl refl (λ q. refl)
-    (λ f ef uf. stand-given s limit Fact kind.Fact p.fact (λ x. directory (At f) Missing x Missing Missing Missing false)
+    (λ f ef uf. stand-given s limit Fact kind.Fact p.fact (λ x. directory (Some f) None x None None None false)
     uf (λ at r h. kind-there s at Fact p.fact.bytes r) (λ q. refl) refl refl (λ q. refl)
-    (λ a x ex ux. stand-given s limit Cue kind.Cues p.cues (λ y. directory (At f) Missing x y Missing Missing false)
+    (λ a x ex ux. stand-given s limit Cue kind.Cues p.cues (λ y. directory (Some f) None x y None None false)
     ux (λ at r h. kind-there s at Cue p.cues.bytes r) (λ q. refl) refl refl (λ q. refl)
-    (λ b y ey uy. stand-given s limit Playlist kind.Plays p.plays (λ z. directory (At f) Missing x y z Missing false)
+    (λ b y ey uy. stand-given s limit Playlist kind.Plays p.plays (λ z. directory (Some f) None x y z None false)
     uy (λ at r h. kind-there s at Playlist p.plays.bytes r) (λ q. refl) refl refl (λ q. refl)
-    (λ c z ez uz. stand-given s limit Listing kind.Titles p.titles (λ l. directory (At f) Missing x y z l false)
+    (λ c z ez uz. stand-given s limit Listing kind.Titles p.titles (λ l. directory (Some f) None x y z l false)
     uz (λ at r h e. kind-titles s at p.titles.bytes r body e starts h) (λ q. refl) refl refl (λ q. refl)
     (λ i l el ul. stand-on s limit Data kind.Sound p.sound
     ul (λ at r h. kind-there s at Data p.sound r) refl refl (λ q. refl)
     (λ g eg ug.
     record {
-      places = directory (At f) (At g) x y z l false;
+      places = directory (Some f) (Some g) x y z l false;
       walked = sym (open-walks s refl (sym (accepted (pieces_of p) limit)) (stand-ends ug));
       format_there = refl;
       sound_there = refl;

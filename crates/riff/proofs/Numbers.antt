@@ -6,40 +6,36 @@ use mathlib.Core.List.{List, [], ◌∷◌}
 use Prim.Native.Nat.{ℕ, zero, suc}
 use lib.Dec.{ltb}
 use lib.ListN.{length}
-use Rattle.units.specs.Refusals.{number_of}
+use Rattle.units.specs.Refusals.{number_of, Verdict}
 use Rattle.units.specs.Checks.{check, decided, number_or}
 use Rattle.units.specs.declared.BytePlace.{BytePlace}
 use Rattle.units.specs.declared.Refusal.{Refusal}
 use Rattle.units.specs.declared.Refusal.TheVariants.{LengthOutOfRange, NotWave, RiffSizeWrong, ChunkPastTheEnd, SecondOfItsKind, DataBeforeFormat, WaveList}
-use Rattle.units.specs.declared.Verdict.{Verdict}
-use Rattle.units.specs.declared.Verdict.TheVariants as verdict
 use Rattle.riff.specs.declared.Directory.{Directory}
-use Rattle.riff.specs.declared.Step.{Step}
-use Rattle.riff.specs.declared.Step.TheVariants.{Chunk, Refused}
-use Rattle.riff.specs.declared.Walked.{Walked}
-use Rattle.riff.specs.Chunks.{bad_length, no_wave, bad_size, head_verdict, kind_at, next_at, placed, passes, place_at, is_there, spot_of, keep, early, wave_list, checked, chunk_at, step_number}
+use Rattle.riff.specs.Chunks.{bad_length, no_wave, bad_size, head_verdict, kind_at, next_at, placed, passes, place_at, is_there, spot_of, keep, early, wave_list, checked, chunk_at, step_number, Step, Walked}
 use Rattle.riff.specs.Walk.{nothing_yet, step_then, steps_from, steps_of, gather, walk_of, after_head, walked_number, directory_of}
 use Rattle.riff.specs.Demands.{step_else, StepNumbered, number_from, walk_number, WalkNumbered}
+use Rattle.std.specs.Prelude.{Err, Ok}
 
 -- a number that is asked of a step, where a refusal gives its own
-module _ (f : Step → ℕ) (own : (r : Refusal) → f (Refused r) ≡ number_of r) where
-  row : (b : Bool) (r : Refusal) (t : Step) {n : ℕ} → f t ≡ n → f (cond b (Refused r) t) ≡ cond b (number_of r) n
+module _ (f : Step → ℕ) (own : (r : Refusal) → f (Err r) ≡ number_of r) where
+  row : (b : Bool) (r : Refusal) (t : Step) {n : ℕ} → f t ≡ n → f (cond b (Err r) t) ≡ cond b (number_of r) n
   row true r t e = own r
   row false r t e = e
 
-  step_row : (s : List ℕ) (at : BytePlace) (d : Directory) → f (chunk_at s at d) ≡ step_else s at.0 d (f (Chunk (placed s at.0)))
+  step_row : (s : List ℕ) (at : BytePlace) (d : Directory) → f (chunk_at s at d) ≡ step_else s at.0 d (f (Ok (placed s at.0)))
   unfolding chunk_at place_at
   step_row s at d = by (passes s at.0)
     where
       by : (b : Bool)
-          → f (checked s d (cond b (Refused ChunkPastTheEnd) (Chunk (placed s at.0))))
+          → f (checked s d (cond b (Err ChunkPastTheEnd) (Ok (placed s at.0))))
           ≡ cond b 4 (cond (is_there (spot_of d (kind_at s at.0))) 5 (cond (early d (kind_at s at.0)) 6
-          (cond (wave_list s (placed s at.0) (kind_at s at.0)) 7 (f (Chunk (placed s at.0))))))
+          (cond (wave_list s (placed s at.0) (kind_at s at.0)) 7 (f (Ok (placed s at.0))))))
       by true = own ChunkPastTheEnd
       by false =
           row (is_there (spot_of d (kind_at s at.0))) SecondOfItsKind _
           (row (early d (kind_at s at.0)) DataBeforeFormat _
-          (row (wave_list s (placed s at.0) (kind_at s at.0)) WaveList (Chunk (placed s at.0)) refl))
+          (row (wave_list s (placed s at.0) (kind_at s at.0)) WaveList (Ok (placed s at.0)) refl))
 
 pub step-numbered : StepNumbered
 unfolding StepNumbered
@@ -81,5 +77,5 @@ unfolding WalkNumbered directory_of
 walk-numbered s = by (head_verdict s) (walk_of s) ∙ ap (number_or (head_verdict s)) (walk-row s) ∙ head-row s (walk_number s)
   where
     by : (v : Verdict) (w : Walked) → walked_number (after_head v w) ≡ number_or v (walked_number w)
-    by verdict.Accepted w = refl
-    by (verdict.Refused r) w = refl
+    by (Ok _) w = refl
+    by (Err r) w = refl

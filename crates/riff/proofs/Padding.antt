@@ -16,19 +16,6 @@ use Rattle.riff.specs.Demands.{PadSays, PadTold}
 use Rattle.riff.proofs.Walking.{none_left, met}
 
 module _ (size end long : ℕ) where
-  pub pad-even : size % 2 ≡ 0 → NotNeeded ≡ pad_after size end long
-  unfolding pad_after
-  pad-even h = simp tests
-
-  module _ (h : size % 2 ≡ 0 → ⊥) where
-    pub pad-absent : end ≡ long → Absent ≡ pad_after size end long
-    unfolding pad_after
-    pad-absent e = simp tests
-
-    pub pad-there : (end ≡ long → ⊥) → There ≡ pad_after size end long
-    unfolding pad_after
-    pad-there e = simp tests
-
   -- where the data fit, so does what there is of a pad
   pub next_place : end ≤ long → end + pad_size (pad_after size end long) ≡ min (end + size % 2) long
   unfolding pad_after
@@ -42,8 +29,6 @@ module _ (size end long : ℕ) where
           let odd = eqb-false (size % 2) 0 e in
           let before = eqb-false end long f in
           omega arith
-
-pub ruleset padding = (pad-even, pad-absent, pad-there)
 
 -- ---- what the pad of a chunk says
 

@@ -17,88 +17,31 @@ use Rattle.riff.specs.declared.Kind.{Kind}
 use Rattle.riff.specs.declared.Kind.TheVariants.{Format, Sound, Fact, Cues, Plays, Titles, Listing, Other}
 use Rattle.riff.specs.declared.Pad.{Pad}
 use Rattle.riff.specs.declared.Place.{Place}
-use Rattle.riff.specs.declared.Step.{Step}
-use Rattle.riff.specs.declared.Step.TheVariants.{Chunk, Refused}
-use Rattle.riff.specs.declared.Spot.{Spot}
-use Rattle.riff.specs.declared.Spot.TheVariants.{At}
 use Rattle.riff.specs.declared.Directory.{Directory}
-use Rattle.riff.specs.Chunks.{size_at, end_at, list_kind, kind_at, pad_after, pad_size, place_at, spot_of, is_there, directory, keep_titles, keep, early, starts_as_waves, wave_list, checked, chunk_at}
+use Rattle.riff.specs.Chunks.{size_at, end_at, list_kind, kind_at, pad_after, pad_size, place_at, spot_of, is_there, directory, keep_titles, keep, early, starts_as_waves, wave_list, checked, chunk_at, Spot, Step}
 use Rattle.riff.specs.Walk.{refusal_of}
-
--- ---- the kind of a chunk: the first code that stands there
-module _ (s : List ℕ) (at : ℕ) where
-  pub kind-format : {a : Bool} → a ≡ is_at s at code.Format → a ≡ true → Format ≡ kind_at s at
-  unfolding kind_at
-  kind-format e t = simp (sym e ∙ t)
-
-  module _ {a : Bool} (e : a ≡ is_at s at code.Format) (m : a ≡ false) where
-    pub kind-sound : {b : Bool} → b ≡ is_at s at code.Data → b ≡ true → Sound ≡ kind_at s at
-    unfolding kind_at
-    kind-sound f t = simp (sym e ∙ m, sym f ∙ t)
-
-    module _ {b : Bool} (f : b ≡ is_at s at code.Data) (n : b ≡ false) where
-      pub kind-fact : {d : Bool} → d ≡ is_at s at code.Fact → d ≡ true → Fact ≡ kind_at s at
-      unfolding kind_at
-      kind-fact g t = simp (sym e ∙ m, sym f ∙ n, sym g ∙ t)
-
-      module _ {d : Bool} (g : d ≡ is_at s at code.Fact) (o : d ≡ false) where
-        pub kind-cues : {i : Bool} → i ≡ is_at s at code.Cue → i ≡ true → Cues ≡ kind_at s at
-        unfolding kind_at
-        kind-cues h t = simp (sym e ∙ m, sym f ∙ n, sym g ∙ o, sym h ∙ t)
-
-        module _ {i : Bool} (h : i ≡ is_at s at code.Cue) (p : i ≡ false) where
-          pub kind-plays : {j : Bool} → j ≡ is_at s at code.Playlist → j ≡ true → Plays ≡ kind_at s at
-          unfolding kind_at
-          kind-plays k t = simp (sym e ∙ m, sym f ∙ n, sym g ∙ o, sym h ∙ p, sym k ∙ t)
-
-          module _ {j : Bool} (k : j ≡ is_at s at code.Playlist) (q : j ≡ false) where
-            pub kind-listing : {x : Bool} {r : Kind} → x ≡ is_at s at code.Listing → x ≡ true → r ≡ list_kind s at → r ≡ kind_at s at
-            unfolding kind_at
-            kind-listing l t r = simp (sym e ∙ m, sym f ∙ n, sym g ∙ o, sym h ∙ p, sym k ∙ q, sym l ∙ t) r
-
-            pub kind-other : {x : Bool} → x ≡ is_at s at code.Listing → x ≡ false → Other ≡ kind_at s at
-            unfolding kind_at
-            kind-other l t = simp (sym e ∙ m, sym f ∙ n, sym g ∙ o, sym h ∙ p, sym k ∙ q, sym l ∙ t)
-
-pub ruleset kinds = (kind-format, kind-sound, kind-fact, kind-cues, kind-plays, kind-listing, kind-other)
-
--- of a list, by what its data start with
-module _ (s : List ℕ) (at : ℕ) {n : ℕ} (b : n ≡ size_at s at) where
-  pub list-short : n < 4 → Listing ≡ list_kind s at
-  unfolding list_kind
-  list-short h = simp (← b, lt-leb 4 n h)
-
-  module _ (h : 4 ≤ n) {x : Bool} (e : x ≡ is_at s (at + 8) code.Titles) where
-    pub list-titles : x ≡ true → Titles ≡ list_kind s at
-    unfolding list_kind
-    list-titles t = simp (← b, le-leb 4 n h, sym e ∙ t)
-
-    pub list-other : x ≡ false → Listing ≡ list_kind s at
-    unfolding list_kind
-    list-other t = simp (← b, le-leb 4 n h, sym e ∙ t)
-
-pub ruleset lists = (list-short, list-titles, list-other)
+use Rattle.std.specs.Prelude.{Err, Ok, Some}
 
 -- ---- a chunk fits the file, or does not
 module _ (s : List ℕ) (at : BytePlace) where
-  short : length s < at.0 + 8 → Refused ChunkPastTheEnd ≡ place_at s at
+  short : length s < at.0 + 8 → Err ChunkPastTheEnd ≡ place_at s at
   unfolding place_at
   short h = simp tests
 
-  pub place_none : length s < 8 → Refused ChunkPastTheEnd ≡ place_at s at
+  pub place_none : length s < 8 → Err ChunkPastTheEnd ≡ place_at s at
   place_none h = short (omega arith)
 
-  pub place_short : 8 ≤ length s → length s - 8 < at.0 → Refused ChunkPastTheEnd ≡ place_at s at
+  pub place_short : 8 ≤ length s → length s - 8 < at.0 → Err ChunkPastTheEnd ≡ place_at s at
   place_short g h = short (omega arith)
 
   module _ (g : 8 ≤ length s) (h : at.0 ≤ length s - 8) {n : ℕ} (b : n ≡ number_at 4 s (at.0 + 4)) where
-    pub place-cut : length s < at.0 + 8 + n → Refused ChunkPastTheEnd ≡ place_at s at
+    pub place-cut : length s < at.0 + 8 + n → Err ChunkPastTheEnd ≡ place_at s at
     unfolding place_at
     place-cut k = simp (le-ltb (length s) (at.0 + 8) (omega arith), lt-ltb (length s) (end_at s at.0) (omega arith))
 
     pub place-whole : {k : Kind} {p : Pad} {m : ℕ} → at.0 + 8 + n ≤ length s → k ≡ kind_at s at.0
         → p ≡ pad_after n (at.0 + 8 + n) (length s) → m ≡ pad_size p
-        → Chunk (record { kind = k; pad = p; start = record { 0 = at.0 + 8 }; size = record { 0 = n }; next = record { 0 = at.0 + 8 + n + m } })
+        → Ok (record { kind = k; pad = p; start = record { 0 = at.0 + 8 }; size = record { 0 = n }; next = record { 0 = at.0 + 8 + n + m } })
         ≡ place_at s at
     unfolding place_at
     place-whole k e f g =
@@ -115,7 +58,7 @@ abbrev titles_again : Directory → Directory
 titles_again d = directory d.format d.sound d.fact d.cues d.plays d.titles true
 
 abbrev titles_first : Directory → Place → Directory
-titles_first d p = directory d.format d.sound d.fact d.cues d.plays (At p) d.second
+titles_first d p = directory d.format d.sound d.fact d.cues d.plays (Some p) d.second
 
 module _ (d : Directory) (p : Place) {x : Bool} {r : Directory} (e : x ≡ is_there d.titles) where
   pub titles-again : x ≡ true → r ≡ titles_again d → r ≡ keep_titles d p
@@ -137,9 +80,6 @@ by-titles P d p again first = by (is_there d.titles) refl
     by true t = again t
     by false t = first t
 
-pub refused-by : (step : Step) {r : Refusal} → step ≡ Refused r → r ≡ refusal_of step
-refused-by step e = sym (ap refusal_of e)
-
 -- ---- a `LIST` of waves
 module _ (s : List ℕ) (p : Place) where
   pub waves-short : p.size.0 < 4 → false ≡ starts_as_waves s p
@@ -152,35 +92,21 @@ module _ (s : List ℕ) (p : Place) where
 
 pub ruleset waves = (waves-short, waves-start)
 
-pub waves-by : (s : List ℕ) (p : Place) {k : Kind} {r : Bool} → p.kind ≡ k → r ≡ wave_list s p k → r ≡ wave_list s p p.kind
-waves-by s p q e = e ∙ ap (wave_list s p) (sym q)
-
 -- ---- a step: at one chunk 4, 5, 6, 7 in that order
 module _ (s : List ℕ) (at : BytePlace) (d : Directory) {step : Step} (a : step ≡ place_at s at) where
-  pub step_past : {r : Refusal} → step ≡ Refused r → step ≡ chunk_at s at d
+  pub step_past : {r : Refusal} → step ≡ Err r → step ≡ chunk_at s at d
   unfolding chunk_at
   step_past e = e ∙ sym (ap (checked s d) (sym a ∙ e))
 
-  module _ {p : Place} (b : step ≡ Chunk p) {spot : Spot} (e : spot ≡ spot_of d p.kind) {x : Bool} (f : x ≡ is_there spot) where
-    at-chunk : {r : Step} → r ≡ checked s d (Chunk p) → r ≡ chunk_at s at d
+  module _ {p : Place} (b : step ≡ Ok p) {spot : Spot} (e : spot ≡ spot_of d p.kind) {x : Bool} (f : x ≡ is_there spot) where
+    at-chunk : {r : Step} → r ≡ checked s d (Ok p) → r ≡ chunk_at s at d
     unfolding chunk_at
     at-chunk t = t ∙ sym (ap (checked s d) (sym a ∙ b))
 
     met : {y : Bool} → x ≡ y → is_there (spot_of d p.kind) ≡ y
     met t = sym (ap is_there e) ∙ sym f ∙ t
 
-    pub step-second : x ≡ true → Refused SecondOfItsKind ≡ chunk_at s at d
-    step-second t = at-chunk (simp (met t))
-
     module _ (t : x ≡ false) {y : Bool} (g : y ≡ early d p.kind) where
-      pub step-early : y ≡ true → Refused DataBeforeFormat ≡ chunk_at s at d
-      step-early u = at-chunk (simp (met t, sym g ∙ u))
-
       module _ (u : y ≡ false) {z : Bool} (h : z ≡ wave_list s p p.kind) where
-        pub step-waves : z ≡ true → Refused WaveList ≡ chunk_at s at d
-        step-waves v = at-chunk (simp (met t, sym g ∙ u, sym h ∙ v))
-
-        pub step-on : z ≡ false → Chunk p ≡ chunk_at s at d
+        pub step-on : z ≡ false → Ok p ≡ chunk_at s at d
         step-on v = at-chunk (simp (met t, sym g ∙ u, sym h ∙ v))
-
-pub ruleset stepping = (step_past, step-second, step-early, step-waves, step-on)

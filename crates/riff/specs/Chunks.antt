@@ -1,23 +1,31 @@
 -- A RIFF file's header, and the chunk at a place. Assumes nothing.
-use Rattle.std.specs.Prelude.{ℕ, ◌+◌, ◌%◌, Bool, true, false, not, cond, ◌&&◌, ◌||◌, List, [], ◌∷◌, ltb, leb, eqb, length}
-use Rattle.units.specs.Refusals.{file_limit, number_of}
+use Rattle.std.specs.Prelude.{ℕ, ◌+◌, ◌%◌, Bool, true, false, not, cond, ◌&&◌, ◌||◌, List, [], ◌∷◌, ltb, leb, eqb, length, Option, is_some, Some, None, Result, Ok, Err}
+use Rattle.units.specs.Refusals.{file_limit, number_of, Verdict}
 use Rattle.units.specs.Checks.{Check, check, decided}
 use Rattle.little.specs.Numbers.{number_at}
 use Rattle.codes.specs.Codes.{is_at}
 use Rattle.codes.specs.declared.Code.TheVariants as code
 use Rattle.units.specs.declared.BytePlace.{BytePlace}
+use Rattle.units.specs.declared.Refusal.{Refusal}
 use Rattle.units.specs.declared.Refusal.TheVariants.{LengthOutOfRange, NotWave, RiffSizeWrong, ChunkPastTheEnd, SecondOfItsKind, DataBeforeFormat, WaveList}
-use Rattle.units.specs.declared.Verdict.{Verdict}
 use Rattle.riff.specs.declared.Kind.{Kind}
 use Rattle.riff.specs.declared.Kind.TheVariants.{Format, Sound, Fact, Cues, Plays, Titles, Listing, Other}
 use Rattle.riff.specs.declared.Pad.{Pad}
 use Rattle.riff.specs.declared.Pad.TheVariants.{NotNeeded, There, Absent}
 use Rattle.riff.specs.declared.Place.{Place}
-use Rattle.riff.specs.declared.Step.{Step}
-use Rattle.riff.specs.declared.Step.TheVariants.{Chunk, Refused}
-use Rattle.riff.specs.declared.Spot.{Spot}
-use Rattle.riff.specs.declared.Spot.TheVariants.{At, Missing}
 use Rattle.riff.specs.declared.Directory.{Directory}
+
+-- a step of the walk: the chunk at a place, or the refusal that ends the walk there
+abbrev pub Step : Type 0
+Step = Result Place Refusal
+
+-- where a chunk stands, if it was met
+abbrev pub Spot : Type 0
+Spot = Option Place
+
+-- what a walk ends with: the directory of a whole file, or the refusal that stopped it
+abbrev pub Walked : Type 0
+Walked = Result Directory Refusal
 
 -- ---- the header
 
@@ -101,13 +109,12 @@ abbrev pub passes : List ℕ → ℕ → Bool
 passes s at = ltb (length s) (at + 8) || ltb (length s) (end_at s at)
 
 unfoldable pub place_at : List ℕ → BytePlace → Step
-place_at s at = cond (passes s at.0) (Refused ChunkPastTheEnd) (Chunk (placed s at.0))
+place_at s at = cond (passes s at.0) (Err ChunkPastTheEnd) (Ok (placed s at.0))
 
 -- ---- what was met before it
 
 abbrev pub is_there : Spot → Bool
-is_there (At p) = true
-is_there Missing = false
+is_there spot = is_some spot
 
 abbrev pub is_absent : Pad → Bool
 is_absent NotNeeded = false
@@ -116,8 +123,8 @@ is_absent Absent = true
 
 -- whether a chunk was met whose pad is absent
 abbrev pub pad_lost : Spot → Bool
-pad_lost (At p) = is_absent p.pad
-pad_lost Missing = false
+pad_lost (Some p) = is_absent p.pad
+pad_lost None = false
 
 -- where a chunk of a kind was met; of the last three, the walk takes any number
 abbrev pub spot_of : Directory → Kind → Spot
@@ -126,9 +133,9 @@ spot_of d Sound = d.sound
 spot_of d Fact = d.fact
 spot_of d Cues = d.cues
 spot_of d Plays = d.plays
-spot_of d Titles = Missing
-spot_of d Listing = Missing
-spot_of d Other = Missing
+spot_of d Titles = None
+spot_of d Listing = None
+spot_of d Other = None
 
 abbrev pub directory : Spot → Spot → Spot → Spot → Spot → Spot → Bool → Directory
 directory format sound fact cues plays titles second =
@@ -150,15 +157,15 @@ unfoldable pub keep_titles : Directory → Place → Directory
 keep_titles d p =
     cond (is_there d.titles)
     (directory d.format d.sound d.fact d.cues d.plays d.titles true)
-    (directory d.format d.sound d.fact d.cues d.plays (At p) d.second)
+    (directory d.format d.sound d.fact d.cues d.plays (Some p) d.second)
 
 -- the directory with one chunk more
 abbrev pub keep : Directory → Place → Kind → Directory
-keep d p Format = directory (At p) d.sound d.fact d.cues d.plays d.titles d.second
-keep d p Sound = directory d.format (At p) d.fact d.cues d.plays d.titles d.second
-keep d p Fact = directory d.format d.sound (At p) d.cues d.plays d.titles d.second
-keep d p Cues = directory d.format d.sound d.fact (At p) d.plays d.titles d.second
-keep d p Plays = directory d.format d.sound d.fact d.cues (At p) d.titles d.second
+keep d p Format = directory (Some p) d.sound d.fact d.cues d.plays d.titles d.second
+keep d p Sound = directory d.format (Some p) d.fact d.cues d.plays d.titles d.second
+keep d p Fact = directory d.format d.sound (Some p) d.cues d.plays d.titles d.second
+keep d p Cues = directory d.format d.sound d.fact (Some p) d.plays d.titles d.second
+keep d p Plays = directory d.format d.sound d.fact d.cues (Some p) d.titles d.second
 keep d p Titles = keep_titles d p
 keep d p Listing = d
 keep d p Other = d
@@ -191,17 +198,17 @@ wave_list s p Other = false
 -- ---- a step of the walk: at one chunk 4, 5, 6, 7 in that order
 
 abbrev pub checked : List ℕ → Directory → Step → Step
-checked s d (Refused r) = Refused r
-checked s d (Chunk p) =
-    cond (is_there (spot_of d p.kind)) (Refused SecondOfItsKind)
-    (cond (early d p.kind) (Refused DataBeforeFormat)
-    (cond (wave_list s p p.kind) (Refused WaveList)
-    (Chunk p)))
+checked s d (Err r) = Err r
+checked s d (Ok p) =
+    cond (is_there (spot_of d p.kind)) (Err SecondOfItsKind)
+    (cond (early d p.kind) (Err DataBeforeFormat)
+    (cond (wave_list s p p.kind) (Err WaveList)
+    (Ok p)))
 
 unfoldable pub chunk_at : List ℕ → BytePlace → Directory → Step
 chunk_at s at d = checked s d (place_at s at)
 
 -- the number of a step: 4, 5, 6 or 7, and 0 where the walk goes on
 abbrev pub step_number : Step → ℕ
-step_number (Chunk p) = 0
-step_number (Refused r) = number_of r
+step_number (Ok p) = 0
+step_number (Err r) = number_of r

@@ -1,16 +1,12 @@
 -- The numbers of the walk; what the pad of a chunk says; what reading a file gives, against the chunks it was laid of; and the bytes
 -- that the chunks it is read by take. Assumes nothing.
-use Rattle.std.specs.Prelude.{ℕ, zero, suc, ◌+◌, ◌%◌, ◌<◌, ◌≡◌, true, false, cond, List, [], ltb, length}
+use Rattle.std.specs.Prelude.{ℕ, zero, suc, ◌+◌, ◌%◌, ◌<◌, ◌≡◌, true, false, cond, List, [], ltb, length, None, Ok, Some}
 use Rattle.units.specs.declared.BytePlace.{BytePlace}
 use Rattle.riff.specs.declared.Pad.{Pad}
 use Rattle.riff.specs.declared.Pad.TheVariants.{NotNeeded, There, Absent}
 use Rattle.riff.specs.declared.Place.{Place}
-use Rattle.riff.specs.declared.Step.TheVariants.{Chunk}
-use Rattle.riff.specs.declared.Spot.{Spot}
-use Rattle.riff.specs.declared.Spot.TheVariants.{At, Missing}
 use Rattle.riff.specs.declared.Directory.{Directory}
-use Rattle.riff.specs.declared.Walked.TheVariants.{Whole}
-use Rattle.riff.specs.Chunks.{bad_length, no_wave, bad_size, kind_at, pad_size, next_at, placed, passes, is_there, spot_of, keep, early, wave_list, chunk_at, step_number}
+use Rattle.riff.specs.Chunks.{bad_length, no_wave, bad_size, kind_at, pad_size, next_at, placed, passes, is_there, spot_of, keep, early, wave_list, chunk_at, step_number, Spot}
 use Rattle.riff.specs.Walk.{nothing_yet, steps_from, walked_number, directory_of, part_of}
 use Rattle.riff.specs.Laying.{extent, Parts}
 
@@ -58,13 +54,13 @@ PadSays s p Absent =
 
 unfoldable pub PadTold : Type 0
 PadTold =
-    (s : List ℕ) (at : BytePlace) (d : Directory) (p : Place) → chunk_at s at d ≡ Chunk p
+    (s : List ℕ) (at : BytePlace) (d : Directory) (p : Place) → chunk_at s at d ≡ Ok p
     → PadSays s p p.pad × (p.next.0 ≡ p.start.0 + p.size.0 + pad_size p.pad)
 
 -- ---- s reads as the parts p; of a chunk that is not written, as what is read in its place
 pub record Reads (s : List ℕ) (p : Parts) : Type 0 where
   pub places : Directory
-  pub walked : directory_of s ≡ Whole places
+  pub walked : directory_of s ≡ Ok places
   pub format_there : is_there places.format ≡ true
   pub sound_there : is_there places.sound ≡ true
   pub format : part_of s places.format [] ≡ p.format
@@ -77,5 +73,5 @@ pub record Reads (s : List ℕ) (p : Parts) : Type 0 where
 
 -- the bytes of a chunk that was met, with its pad, also where that is absent
 abbrev pub spot_extent : List ℕ → Spot → ℕ
-spot_extent s (At p) = extent (length (part_of s (At p) []))
-spot_extent s Missing = 0
+spot_extent s (Some p) = extent (length (part_of s (Some p) []))
+spot_extent s None = 0

@@ -7,15 +7,15 @@
 
 ghost use Rattle.std.specs.Prelude.{◌≡◌, ◌+◌, ◌≤◌, min, length};
 ghost use Rattle.little.specs.Writing.{Put};
-ghost use Rattle.riff.specs.Chunks.{head_verdict, list_kind, kind_at, pad_after, pad_size, place_at, is_there, pad_lost, spot_of, early, starts_as_waves, wave_list, chunk_at, directory, is_kept, keep_titles, keep};
-ghost use Rattle.riff.specs.Walk.{refusal_of, walk_of, directory_of, part_of, by_spot, start_of};
+ghost use Rattle.riff.specs.Chunks.{head_verdict, list_kind, kind_at, pad_after, pad_size, place_at, pad_lost, spot_of, early, starts_as_waves, wave_list, chunk_at, is_kept, keep_titles, keep};
+ghost use Rattle.riff.specs.Walk.{walk_of, directory_of, part_of, by_spot, start_of};
 ghost use Rattle.riff.specs.Laying.{head_bytes, pad_bytes, riff_bytes};
 
 use codes::Code;
-use units::{BytePlace, Refusal, Verdict};
+use units::{BytePlace, Refusal};
 
 // What a chunk is to the walk.
-#[derive(Clone, Copy)]
+#[derive(Clone, Copy, PartialEq, Eq)]
 pub enum Kind {
     Format,
     Sound,
@@ -28,7 +28,7 @@ pub enum Kind {
 }
 
 // The pad after a chunk's data: even data need none, and data that end with the file may lack it.
-#[derive(Clone, Copy)]
+#[derive(Clone, Copy, PartialEq, Eq)]
 pub enum Pad {
     NotNeeded,
     There,
@@ -46,79 +46,51 @@ pub struct Place {
     pub next: BytePlace,
 }
 
-// A step of the walk.
-#[derive(Clone, Copy)]
-pub enum Step {
-    Chunk(Place),
-    Refused(Refusal),
-}
-
-// A chunk that may not have been met.
-#[derive(Clone, Copy)]
-pub enum Spot {
-    At(Place),
-    Missing,
-}
-
-// Where the chunks stand that a file is read by; of the lists of titles the first, and whether another came.
+// Where the chunks stand that a file is read by, if they were met; of the lists of titles the first, and whether
+// another came. That stays a flag: the definition of the walk keeps the place of the first also where another came.
 #[derive(Clone, Copy)]
 pub struct Directory {
-    pub format: Spot,
-    pub sound: Spot,
-    pub fact: Spot,
-    pub cues: Spot,
-    pub plays: Spot,
-    pub titles: Spot,
+    pub format: Option<Place>,
+    pub sound: Option<Place>,
+    pub fact: Option<Place>,
+    pub cues: Option<Place>,
+    pub plays: Option<Place>,
+    pub titles: Option<Place>,
     pub second: bool,
 }
 
-// What a walk ends with.
-#[derive(Clone, Copy)]
-pub enum Walked {
-    Whole(Directory),
-    Stopped(Refusal),
-}
-
 // Whether the length, the two codes and the size at the start of a file are right.
-fn head(file: &[u8]) -> Verdict
+#[tactic(auto, unfolding(crate::specs::Chunks::head_verdict, units::specs::Checks::decided))]
+fn head(file: &[u8]) -> Result<(), Refusal>
     ensures answer { result ≡ head_verdict file.now }
 {
-    if file.len() < 12 {
-        return Verdict::Refused(Refusal::LengthOutOfRange);
+    if file.len() < 12 || units::LIMIT < file.len() {
+        return Err(Refusal::LengthOutOfRange);
     }
-    if units::LIMIT < file.len() {
-        return Verdict::Refused(Refusal::LengthOutOfRange);
-    }
-    let riff = codes::is_at(file, 0, Code::Riff);
-    if !riff {
-        return Verdict::Refused(Refusal::NotWave);
-    }
-    let wave = codes::is_at(file, 8, Code::Wave);
-    if !wave {
-        return Verdict::Refused(Refusal::NotWave);
+    if !codes::is_at(file, 0, Code::Riff) || !codes::is_at(file, 8, Code::Wave) {
+        return Err(Refusal::NotWave);
     }
     let size = little::u32_at(file, 4) as usize;
     if 8 + size != file.len() {
-        return Verdict::Refused(Refusal::RiffSizeWrong);
+        return Err(Refusal::RiffSizeWrong);
     }
-    Verdict::Accepted
+    Ok(())
 }
 
 // What the `LIST` at a place is: one of titles where its data start with `adtl`.
+#[tactic(auto, unfolding(crate::specs::Chunks::list_kind))]
 fn list_kind(file: &[u8], at: usize) -> Kind
     requires { at + 8 ≤ length file.now }
     ensures answer { result ≡ list_kind file.now at }
 {
-    if little::u32_at(file, at + 4) < 4 {
-        return Kind::Listing;
-    }
-    if codes::is_at(file, at + 8, Code::Titles) {
+    if 4 <= little::u32_at(file, at + 4) && codes::is_at(file, at + 8, Code::Titles) {
         return Kind::Titles;
     }
     Kind::Listing
 }
 
 // What the chunk at a place is, by its code.
+#[tactic(auto, unfolding(crate::specs::Chunks::kind_at))]
 fn kind_at(file: &[u8], at: usize) -> Kind
     requires { at + 8 ≤ length file.now }
     ensures answer { result ≡ kind_at file.now at }
@@ -145,6 +117,7 @@ fn kind_at(file: &[u8], at: usize) -> Kind
 }
 
 // The pad after data of some size that end at a place, in a file so long: absent only where they end with it.
+#[tactic(auto, unfolding(crate::specs::Chunks::pad_after))]
 pub fn pad_after(size: usize, end: usize, long: usize) -> Pad
     ensures answer { result ≡ pad_after size end long }
 {
@@ -163,41 +136,37 @@ pub fn pad_size(pad: Pad) -> usize
     ensures bound { result ≤ 1 }
 {
     match pad {
-        Pad::NotNeeded => 0,
+        Pad::NotNeeded | Pad::Absent => 0,
         Pad::There => 1,
-        Pad::Absent => 0,
     }
 }
 
 // The chunk that starts at a place, where it fits the file.
-fn place_at(file: &[u8], at: BytePlace) -> Step
+#[tactic(auto, unfolding(crate::specs::Chunks::place_at))]
+fn place_at(file: &[u8], at: BytePlace) -> Result<Place, Refusal>
     ensures answer { result ≡ place_at file.now at }
 {
-    let a = at.0;
-    if file.len() < 8 {
-        return Step::Refused(Refusal::ChunkPastTheEnd);
+    let BytePlace(at) = at;
+    if file.len() < 8 || file.len() - 8 < at {
+        return Err(Refusal::ChunkPastTheEnd);
     }
-    if file.len() - 8 < a {
-        return Step::Refused(Refusal::ChunkPastTheEnd);
-    }
-    let size = little::u32_at(file, a + 4) as usize;
-    let end = a + 8 + size;
+    let size = little::u32_at(file, at + 4) as usize;
+    let end = at + 8 + size;
     if file.len() < end {
-        return Step::Refused(Refusal::ChunkPastTheEnd);
+        return Err(Refusal::ChunkPastTheEnd);
     }
-    let kind = kind_at(file, a);
     let pad = pad_after(size, end, file.len());
-    Step::Chunk(Place {
-        kind: kind,
-        pad: pad,
-        start: BytePlace(a + 8),
+    Ok(Place {
+        kind: kind_at(file, at),
+        pad,
+        start: BytePlace(at + 8),
         size: BytePlace(size),
         next: BytePlace(end + pad_size(pad)),
     })
 }
 
 // Where a chunk of some kind was met; nowhere for a kind of which the walk takes any number.
-fn spot_of(seen: Directory, kind: Kind) -> Spot
+fn spot_of(seen: Directory, kind: Kind) -> Option<Place>
     ensures answer { result ≡ spot_of seen kind }
 {
     match kind {
@@ -206,34 +175,17 @@ fn spot_of(seen: Directory, kind: Kind) -> Spot
         Kind::Fact => seen.fact,
         Kind::Cues => seen.cues,
         Kind::Plays => seen.plays,
-        Kind::Titles => Spot::Missing,
-        Kind::Listing => Spot::Missing,
-        Kind::Other => Spot::Missing,
-    }
-}
-
-// Whether a chunk was met.
-pub fn there(spot: Spot) -> bool
-    ensures answer { result ≡ is_there spot }
-{
-    match spot {
-        Spot::At(_) => true,
-        Spot::Missing => false,
+        Kind::Titles | Kind::Listing | Kind::Other => None,
     }
 }
 
 // Whether a chunk was met whose pad is absent.
-pub fn pad_lost(spot: Spot) -> bool
+pub fn pad_lost(spot: Option<Place>) -> bool
     ensures answer { result ≡ pad_lost spot }
 {
-    let Spot::At(place) = spot else {
-        return false;
-    };
-    let pad = place.pad;
-    match pad {
-        Pad::NotNeeded => false,
-        Pad::There => false,
-        Pad::Absent => true,
+    match spot {
+        Some(place) => matches!(place.pad, Pad::Absent),
+        None => false,
     }
 }
 
@@ -241,201 +193,137 @@ pub fn pad_lost(spot: Spot) -> bool
 fn too_early(seen: Directory, kind: Kind) -> bool
     ensures answer { result ≡ early seen kind }
 {
-    let format = seen.format;
-    match kind {
-        Kind::Format => false,
-        Kind::Sound => !there(format),
-        Kind::Fact => false,
-        Kind::Cues => false,
-        Kind::Plays => false,
-        Kind::Titles => false,
-        Kind::Listing => false,
-        Kind::Other => false,
-    }
+    matches!(kind, Kind::Sound) && seen.format.is_none()
 }
 
 // Whether a chunk's data starts with `wavl`.
+#[tactic(auto, unfolding(crate::specs::Chunks::starts_as_waves))]
 fn starts_as_waves(file: &[u8], place: Place) -> bool
     ensures answer { result ≡ starts_as_waves file.now place }
 {
-    if place.size.0 < 4 {
-        return false;
-    }
-    codes::is_at(file, place.start.0, Code::WaveList)
+    4 <= place.size.0 && codes::is_at(file, place.start.0, Code::WaveList)
 }
 
 // Whether a chunk is a list of waves.
 fn wave_list(file: &[u8], place: Place) -> bool
     ensures answer { result ≡ wave_list file.now place place.kind }
 {
-    let kind = place.kind;
-    match kind {
-        Kind::Format => false,
-        Kind::Sound => false,
-        Kind::Fact => false,
-        Kind::Cues => false,
-        Kind::Plays => false,
-        Kind::Titles => false,
-        Kind::Listing => starts_as_waves(file, place),
-        Kind::Other => false,
-    }
+    matches!(place.kind, Kind::Listing) && starts_as_waves(file, place)
 }
 
 // The chunk at a place, or the refusal that ends the walk there.
-pub fn chunk_at(file: &[u8], at: BytePlace, seen: Directory) -> Step
+#[tactic(auto, unfolding(crate::specs::Chunks::chunk_at))]
+pub fn chunk_at(file: &[u8], at: BytePlace, seen: Directory) -> Result<Place, Refusal>
     ensures answer { result ≡ chunk_at file.now at seen }
 {
-    let step = place_at(file, at);
-    let Step::Chunk(place) = step else {
-        return step;
-    };
-    let kind = place.kind;
-    let spot = spot_of(seen, kind);
-    if there(spot) {
-        return Step::Refused(Refusal::SecondOfItsKind);
+    let place = place_at(file, at)?;
+    if spot_of(seen, place.kind).is_some() {
+        return Err(Refusal::SecondOfItsKind);
     }
-    if too_early(seen, kind) {
-        return Step::Refused(Refusal::DataBeforeFormat);
+    if too_early(seen, place.kind) {
+        return Err(Refusal::DataBeforeFormat);
     }
     if wave_list(file, place) {
-        return Step::Refused(Refusal::WaveList);
+        return Err(Refusal::WaveList);
     }
-    Step::Chunk(place)
-}
-
-// The directory of six spots, and whether a second list of titles came.
-fn listed(
-    format: Spot,
-    sound: Spot,
-    fact: Spot,
-    cues: Spot,
-    plays: Spot,
-    titles: Spot,
-    second: bool,
-) -> Directory
-    ensures answer { result ≡ directory format sound fact cues plays titles second }
-{
-    Directory {
-        format: format,
-        sound: sound,
-        fact: fact,
-        cues: cues,
-        plays: plays,
-        titles: titles,
-        second: second,
-    }
+    Ok(place)
 }
 
 // Whether the directory has a spot for chunks of a kind.
 fn is_kept(kind: Kind) -> bool
     ensures answer { result ≡ is_kept kind }
 {
-    match kind {
-        Kind::Format => true,
-        Kind::Sound => true,
-        Kind::Fact => true,
-        Kind::Cues => true,
-        Kind::Plays => true,
-        Kind::Titles => true,
-        Kind::Listing => false,
-        Kind::Other => false,
-    }
+    !matches!(kind, Kind::Listing | Kind::Other)
 }
 
 // The directory with a list of titles more: its place where it is the first, else only that another came.
+#[tactic(auto, unfolding(crate::specs::Chunks::keep_titles))]
 fn kept_titles(seen: Directory, place: Place) -> Directory
     ensures answer { result ≡ keep_titles seen place }
 {
-    let format = seen.format;
-    let sound = seen.sound;
-    let fact = seen.fact;
-    let cues = seen.cues;
-    let plays = seen.plays;
-    let titles = seen.titles;
-    let second = seen.second;
-    if there(titles) {
-        return listed(format, sound, fact, cues, plays, titles, true);
+    if seen.titles.is_some() {
+        return Directory {
+            second: true,
+            ..seen
+        };
     }
-    listed(format, sound, fact, cues, plays, Spot::At(place), second)
+    Directory {
+        titles: Some(place),
+        ..seen
+    }
 }
 
 // The directory with one chunk more.
 fn kept(seen: Directory, place: Place) -> Directory
     ensures answer { result ≡ keep seen place place.kind }
 {
-    let kind = place.kind;
-    let format = seen.format;
-    let sound = seen.sound;
-    let fact = seen.fact;
-    let cues = seen.cues;
-    let plays = seen.plays;
-    let titles = seen.titles;
-    let second = seen.second;
-    let here = Spot::At(place);
-    match kind {
-        Kind::Format => listed(here, sound, fact, cues, plays, titles, second),
-        Kind::Sound => listed(format, here, fact, cues, plays, titles, second),
-        Kind::Fact => listed(format, sound, here, cues, plays, titles, second),
-        Kind::Cues => listed(format, sound, fact, here, plays, titles, second),
-        Kind::Plays => listed(format, sound, fact, cues, here, titles, second),
+    let here = Some(place);
+    match place.kind {
+        Kind::Format => Directory {
+            format: here,
+            ..seen
+        },
+        Kind::Sound => Directory {
+            sound: here,
+            ..seen
+        },
+        Kind::Fact => Directory { fact: here, ..seen },
+        Kind::Cues => Directory { cues: here, ..seen },
+        Kind::Plays => Directory {
+            plays: here,
+            ..seen
+        },
         Kind::Titles => kept_titles(seen, place),
-        Kind::Listing => seen,
-        Kind::Other => seen,
-    }
-}
-
-// The refusal that a step is. Of a chunk any answer would do: the walk does not ask.
-fn refusal_of(step: Step) -> Refusal
-    ensures answer { result ≡ refusal_of step }
-{
-    match step {
-        Step::Chunk(_) => Refusal::ChunkPastTheEnd,
-        Step::Refused(refusal) => refusal,
+        Kind::Listing | Kind::Other => seen,
     }
 }
 
 // The walk over the chunks from byte 12. The directory is made anew only for a chunk that it keeps: to
-// carry it over where it stays as it is would cost more than the rest of a turn.
-fn walk(file: &[u8]) -> Walked
+// carry it over where it stays as it is would cost more than the rest of a turn. A turn is as long as its chunk
+// says, so this is no `for`.
+#[tactic(auto, using(crate::proofs::Walking::walking))]
+fn walk(file: &[u8]) -> Result<Directory, Refusal>
     ensures answer { result ≡ walk_of file.now }
 {
-    let mut at: usize = 12;
-    let none = Spot::Missing;
-    let mut seen = listed(none, none, none, none, none, none, false);
+    let mut at = 12;
+    let mut seen = Directory {
+        format: None,
+        sound: None,
+        fact: None,
+        cues: None,
+        plays: None,
+        titles: None,
+        second: false,
+    };
     while at < file.len() {
-        let step = chunk_at(file, BytePlace(at), seen);
-        let Step::Chunk(place) = step else {
-            return Walked::Stopped(refusal_of(step));
-        };
-        let kind = place.kind;
+        let place = chunk_at(file, BytePlace(at), seen)?;
         at = place.next.0;
-        if is_kept(kind) {
+        if is_kept(place.kind) {
             seen = kept(seen, place);
         }
     }
-    Walked::Whole(seen)
+    Ok(seen)
 }
 
 // The directory of a file, or why it has none: the refusals 1 to 7.
-pub fn chunks(file: &[u8]) -> Walked
+#[tactic(auto, unfolding(crate::specs::Walk::directory_of))]
+pub fn chunks(file: &[u8]) -> Result<Directory, Refusal>
     ensures answer { result ≡ directory_of file.now }
 {
-    match head(file) {
-        Verdict::Accepted => walk(file),
-        Verdict::Refused(refusal) => Walked::Stopped(refusal),
-    }
+    head(file)?;
+    walk(file)
 }
 
 // A chunk's data, that very part of the file; of a chunk that is missing, what is lent in its place.
-pub fn part<'a>(file: &'a [u8], spot: Spot, absent: &'a [u8]) -> &'a [u8]
+pub fn part<'a>(file: &'a [u8], spot: Option<Place>, absent: &'a [u8]) -> &'a [u8]
     ensures part { result.now ≡ part_of file.now spot absent.now }
     ensures lent { result.ref_ptr.0 ≡ by_spot spot file.entry.ref_ptr.0 absent.entry.ref_ptr.0 }
     ensures place { result.ref_ptr.1 ≡ by_spot spot (file.entry.ref_ptr.1 + min (start_of spot) (length file.now))
         absent.entry.ref_ptr.1 }
 {
     match spot {
-        Spot::At(place) => little::bytes_from(file, place.start, place.size),
-        Spot::Missing => absent,
+        Some(place) => little::bytes_from(file, place.start, place.size),
+        None => absent,
     }
 }
 

@@ -13,8 +13,6 @@ use Rattle.units.specs.declared.BytePlace.{BytePlace}
 use Rattle.units.specs.declared.Frames.{Frames}
 use Rattle.units.specs.declared.Refusal.{Refusal}
 use Rattle.units.specs.declared.Refusal.TheVariants.{FormatWrong, FactWrong}
-use Rattle.units.specs.declared.Verdict.{Verdict}
-use Rattle.units.specs.declared.Verdict.TheVariants.{Accepted, Refused}
 use Rattle.units.specs.Checks.{decided, SameSoFar}
 use Rattle.units.proofs.Checks.{same-verdict}
 use Rattle.formats.specs.declared.Format.{Format}
@@ -40,6 +38,8 @@ use Rattle.rules.specs.declared.Record.{Record}
 use Rattle.rules.specs.Rules.{ChunkBytes, record_of, with_titles, valid, format_valid, fact_valid, cues_valid, plays_valid, chunk_checks, verdict_of, record_checks, record_verdict, Writable}
 use Rattle.rules.specs.Written.{written_bytes, record_kept, RecordFits, FaultSaid}
 use Rattle.rules.proofs.Taken.{record-taken}
+use Rattle.units.specs.Refusals.{Verdict}
+use Rattle.std.specs.Prelude.{Err, Ok}
 
 -- ---- form and rule together
 fine-yes : {form rule : Bool} → form ≡ true → valid form rule ≡ rule
@@ -71,7 +71,7 @@ module _ (m : Record) (n : BytePlace) (h : RecordFits m) (k : FaultSaid m n) whe
   abbrev f : Format
   f = m.format
 
-  format-wrong : format_rule f ≡ false → record_verdict m n ≡ Refused FormatWrong
+  format-wrong : format_rule f ≡ false → record_verdict m n ≡ Err FormatWrong
   unfolding record_checks decided
   format-wrong e = simp e
 
@@ -86,7 +86,7 @@ module _ (m : Record) (n : BytePlace) (h : RecordFits m) (k : FaultSaid m n) whe
       unread e false g = refl
 
   -- ---- the frames: of ADPCM the fact says them, of PCM the sound does
-  fact-wrong : format_rule f ≡ true → whole_blocks f n ≡ true → frames_rule f n m.frames ≡ false → record_verdict m n ≡ Refused FactWrong
+  fact-wrong : format_rule f ≡ true → whole_blocks f n ≡ true → frames_rule f n m.frames ≡ false → record_verdict m n ≡ Err FactWrong
   unfolding record_checks decided
   fact-wrong a b c = simp (a, b, c)
 
@@ -165,7 +165,7 @@ no-fault {m} {n} k =
       frames = λ e. absurd (taken (sym (record-taken k) ∙ e));
     }
   where
-    taken : {r : Refusal} → ◌≡◌ {A = Verdict} Accepted (Refused r) → ⊥
+    taken : {r : Refusal} → ◌≡◌ {A = Verdict} (Ok tt) (Err r) → ⊥
     taken e = let z : ◌≡◌ {A = ℕ} 0 1 = cc in omega arith
 
 -- ---- one check more that is the same

@@ -1,11 +1,9 @@
 -- The record that a file's chunks make, and the verdict on them. Assumes nothing.
-use Rattle.std.specs.Prelude.{ℕ, ◌≡◌, Bool, true, ◌&&◌, List, [], ◌∷◌}
+use Rattle.std.specs.Prelude.{ℕ, ◌≡◌, Bool, true, ◌&&◌, List, [], ◌∷◌, Result, Ok, Err}
 use Rattle.units.specs.declared.BytePlace.{BytePlace}
 use Rattle.units.specs.declared.Frames.{Frames}
 use Rattle.units.specs.declared.Refusal.{Refusal}
 use Rattle.units.specs.declared.Refusal.TheVariants.{FormatWrong, NotWholeFrames, FactWrong, CuesWrong, PlaylistWrong}
-use Rattle.units.specs.declared.Verdict.{Verdict}
-use Rattle.units.specs.declared.Verdict.TheVariants.{Accepted, Refused}
 use Rattle.units.specs.Checks.{Check, check, decided}
 use Rattle.formats.specs.declared.Format.{Format}
 use Rattle.formats.specs.Format.{format_of, format_form, format_rule}
@@ -17,7 +15,7 @@ use Rattle.tables.specs.Plays.{no_plays, plays_of, plays_form, plays_rule}
 use Rattle.titles.specs.declared.Titles.{Titles}
 use Rattle.titles.specs.Titles.{no_titles}
 use Rattle.rules.specs.declared.Record.{Record}
-use Rattle.rules.specs.declared.Reading.{Reading}
+use Rattle.units.specs.Refusals.{Verdict}
 
 -- what is judged of a file's chunks: the bytes of each, and of the sound data how many there are
 pub record ChunkBytes : Type 0 where
@@ -100,14 +98,23 @@ with_titles m t = record { format = m.format; frames = m.frames; cues = m.cues; 
 abbrev pub blank : Record
 blank = bare (record { tag = 0; channels = 0; rate = 0; bits = 0; align = 0; samples = 0 }) (record { 0 = 0 })
 
--- a refused file: its refusal, and no record
-abbrev pub turned_away : Refusal → Reading
-turned_away r = record { verdict = Refused r; made = blank }
+-- what reading answers: a record that is taken, or the refusal
+abbrev pub Reading : Type 0
+Reading = Result Record Refusal
 
--- a record that is taken, or the refusal
+-- the verdict that an answer tells, and the record; a refusal tells of none, and then it is all zero
+abbrev pub reading_verdict : Reading → Verdict
+reading_verdict (Ok m) = Ok tt
+reading_verdict (Err r) = Err r
+
+abbrev pub record_in : Reading → Record
+record_in (Ok m) = m
+record_in (Err r) = blank
+
+-- a record that a verdict takes
 abbrev pub reading_by : Verdict → Record → Reading
-reading_by Accepted m = record { verdict = Accepted; made = m }
-reading_by (Refused r) m = turned_away r
+reading_by (Ok _) m = Ok m
+reading_by (Err r) m = Err r
 
 unfoldable pub judged : ChunkBytes → Reading
 judged b = reading_by (verdict_of b (record_of b)) (record_of b)

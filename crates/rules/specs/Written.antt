@@ -1,8 +1,7 @@
 -- What is read back of a record that is written, and which faults its bytes carry. Assumes nothing.
-use Rattle.std.specs.Prelude.{ℕ, ◌<◌, ◌≡◌, true, false, List}
+use Rattle.std.specs.Prelude.{ℕ, ◌<◌, ◌≡◌, true, false, List, Err}
 use Rattle.units.specs.declared.BytePlace.{BytePlace}
 use Rattle.units.specs.declared.Refusal.TheVariants.{FormatWrong, FactWrong}
-use Rattle.units.specs.declared.Verdict.TheVariants.{Refused}
 use Rattle.formats.specs.Format.{format_rule}
 use Rattle.formats.specs.Frames.{needs_fact}
 use Rattle.formats.specs.Bytes.{format_bytes, said_format, FormatFits}
@@ -31,5 +30,5 @@ pub record RecordFits (m : Record) : Type 0 where
 
 -- the fault for which a record is refused is in what its bytes say: a PCM file says neither its samples per block nor F
 pub record FaultSaid (m : Record) (n : BytePlace) : Type 0 where
-  pub format : record_verdict m n ≡ Refused FormatWrong → format_rule (said_format m.format) ≡ false
-  pub frames : record_verdict m n ≡ Refused FactWrong → needs_fact m.format ≡ true
+  pub format : record_verdict m n ≡ Err FormatWrong → format_rule (said_format m.format) ≡ false
+  pub frames : record_verdict m n ≡ Err FactWrong → needs_fact m.format ≡ true

@@ -2,31 +2,29 @@
 // bits, and the loops that turn the bytes of PCM sound into samples and samples into bytes.
 #![tactic(auto)]
 
-ghost use Rattle.std.specs.Prelude.{◌≡◌, [], ◌∷◌, map, ◌+◌, ◌*◌, ◌/◌, ◌≤◌, length, take, drop};
+ghost use Rattle.std.specs.Prelude.{◌≡◌, ℤ, map, ◌+◌, ◌*◌, ◌/◌, ◌≤◌, length};
+ghost use Rattle.little.specs.Numbers.{number_in};
 ghost use Rattle.little.specs.Writing.{Put, front};
 ghost use Rattle.samples.specs.Sound.{signed_of, bits_of, sample_at, sample_bytes, samples_in, sound_bytes, eight, hold};
 
 // The signed number of 16 bits.
+#[tactic(auto, unfolding(crate::specs::Sound::signed_of))]
 pub fn from_bits(bits: u16) -> i16
     ensures answer { result ≡ signed_of bits }
 {
-    if bits < 32768 {
-        return bits as i16;
-    }
-    (bits as i32 - 65536) as i16
+    bits.cast_signed()
 }
 
 // The 16 bits of a signed number.
+#[tactic(auto, unfolding(crate::specs::Sound::bits_of))]
 pub fn to_bits(sample: i16) -> u16
     ensures answer { result ≡ bits_of sample }
 {
-    if sample < 0 {
-        return (sample as i32 + 65536) as u16;
-    }
-    sample as u16
+    sample.cast_unsigned()
 }
 
 // The sample at a place.
+#[tactic(auto, unfolding(crate::specs::Sound::sample_at))]
 pub fn sample_at(bytes: &[u8], at: usize) -> i16
     requires { at + 2 ≤ length bytes.now }
     ensures answer { result ≡ sample_at bytes.now at }
@@ -35,6 +33,7 @@ pub fn sample_at(bytes: &[u8], at: usize) -> i16
 }
 
 // Puts a sample at a place.
+#[tactic(auto, unfolding(crate::specs::Sound::sample_bytes))]
 pub fn put_sample(out: &mut [u8], at: usize, sample: i16)
     requires { at + 2 ≤ length out.old }
     ensures buffer { Put out.old at (sample_bytes sample) out.new }
@@ -43,6 +42,7 @@ pub fn put_sample(out: &mut [u8], at: usize, sample: i16)
 }
 
 // A value of 8-bit sound as a sample.
+#[tactic(auto, unfolding(crate::specs::Sound::eight))]
 pub fn from_eight(value: u8) -> i16
     ensures answer { result ≡ eight value }
 {
@@ -50,166 +50,85 @@ pub fn from_eight(value: u8) -> i16
 }
 
 // A wider number held to 16 bits.
+#[tactic(auto, unfolding(crate::specs::Sound::hold))]
 pub fn held(value: i32) -> i16
     ensures answer { result ≡ hold value }
 {
-    if value < -32768 {
-        return -32768;
-    }
-    if 32767 < value {
-        return 32767;
-    }
-    value as i16
+    value.clamp(-32768, 32767) as i16
 }
 
-// Four samples in a row.
-#[derive(Clone, Copy)]
-struct Four {
-    first: i16,
-    second: i16,
-    third: i16,
-    fourth: i16,
+// What says one sample of PCM: a byte of 8 bits, or two bytes of 16.
+trait Sound {
+    ghost sample_of: { Self → ℤ };
+
+    // The sample that it says.
+    fn sample(&self) -> i16
+        ensures { result ≡ sample_of self.now };
 }
 
-// The four samples from i on of 16-bit PCM.
-fn four_at(bytes: &[u8], i: usize) -> Four
-    requires { i + 4 ≤ length bytes.now / 2 }
-    ensures answer { result.first ∷ result.second ∷ result.third ∷ result.fourth ∷ [] ≡ take 4 (drop i (samples_in bytes.now)) }
-{
-    Four {
-        first: sample_at(bytes, 2 * i),
-        second: sample_at(bytes, 2 * i + 2),
-        third: sample_at(bytes, 2 * i + 4),
-        fourth: sample_at(bytes, 2 * i + 6),
+impl Sound for u8 {
+    ghost sample_of = { eight };
+
+    fn sample(&self) -> i16 {
+        from_eight(*self)
     }
 }
 
-// Puts four samples at a place.
-fn put_four(out: &mut [i16], at: usize, four: Four)
-    requires { at + 4 ≤ length out.old }
-    ensures buffer { Put out.old at (four.first ∷ four.second ∷ four.third ∷ four.fourth ∷ []) out.new }
-{
-    let first = four.first;
-    let second = four.second;
-    let third = four.third;
-    let fourth = four.fourth;
-    out[at] = first;
-    out[at + 1] = second;
-    out[at + 2] = third;
-    out[at + 3] = fourth;
-}
+impl Sound for [u8; 2] {
+    ghost sample_of = { λ pair. signed_of (number_in pair) };
 
-// Turns the eight samples from i on of 16-bit PCM. All are read before the first is written, so
-// that a machine can move them as one.
-fn eight_from_pcm16(bytes: &[u8], i: usize, out: &mut [i16])
-    requires i_in_bounds { i + 8 ≤ length bytes.now / 2 }
-    requires i_in_bounds_2 { i + 8 ≤ length out.old }
-    ensures buffer { Put out.old i (take 8 (drop i (samples_in bytes.now))) out.new }
-{
-    let early = four_at(bytes, i);
-    let late = four_at(bytes, i + 4);
-    put_four(out, i, early);
-    put_four(out, i + 4, late);
-}
-
-// Turns the 32 samples from i on of 16-bit PCM.
-fn many_from_pcm16(bytes: &[u8], i: usize, out: &mut [i16])
-    requires i_in_bounds { i + 32 ≤ length bytes.now / 2 }
-    requires i_in_bounds_2 { i + 32 ≤ length out.old }
-    ensures buffer { Put out.old i (take 32 (drop i (samples_in bytes.now))) out.new }
-{
-    eight_from_pcm16(bytes, i, out);
-    eight_from_pcm16(bytes, i + 8, out);
-    eight_from_pcm16(bytes, i + 16, out);
-    eight_from_pcm16(bytes, i + 24, out);
-}
-
-// Turns the samples from i on of 16-bit PCM, one by one.
-fn rest_from_pcm16(bytes: &[u8], i: usize, out: &mut [i16])
-    requires i_in_bounds { i ≤ length bytes.now / 2 }
-    requires bytes_in_bounds { length bytes.now / 2 ≤ length out.old }
-    ensures buffer { Put out.old i (drop i (samples_in bytes.now)) out.new }
-{
-    let n = bytes.len() / 2;
-    let mut j = i;
-    while j < n {
-        out[j] = sample_at(bytes, 2 * j);
-        j += 1;
+    #[tactic(auto, unfolding(crate::specs::Sound::signed_of, little::specs::Numbers::number_in))]
+    fn sample(&self) -> i16 {
+        i16::from_le_bytes(*self)
     }
+}
+
+// Turns PCM into samples, one by one, from the start of a lent buffer.
+#[tactic(auto, using(crate::proofs::Turning::turning))]
+fn turn_each<T: Sound>(sound: &[T], out: &mut [i16])
+    requires { length sound.now ≤ length out.old }
+    ensures buffer { out.new ≡ front (map T.sample_of sound.now) out.old }
+{
+    for (i, said) in sound.iter().enumerate() {
+        out[i] = said.sample();
+    }
+}
+
+// Turns 64 samples. They are all read before the first is written, so that a machine can move several as one: one
+// loop over all samples took 1.2 times the instructions, which is more than 1.1 of plain C.
+#[tactic(auto, using(crate::proofs::Turning::turning))]
+fn turn_many<T: Sound>(sound: &[T], out: &mut [i16])
+    requires { (length sound.now ≡ 64) × (length out.old ≡ 64) }
+    ensures buffer { out.new ≡ map T.sample_of sound.now }
+{
+    let mut samples = [0; 64];
+    turn_each(sound, &mut samples);
+    out.copy_from_slice(&samples);
+}
+
+// Turns PCM into samples, 64 at a turn, from the start of a lent buffer.
+#[tactic(auto, using(crate::proofs::Turning::turning))]
+fn turn<T: Sound>(sound: &[T], out: &mut [i16])
+    requires { length sound.now ≤ length out.old }
+    ensures buffer { out.new ≡ front (map T.sample_of sound.now) out.old }
+{
+    let turns = sound.len() / 64;
+    for i in 0..turns {
+        let at = 64 * i;
+        turn_many(&sound[at..at + 64], &mut out[at..at + 64]);
+    }
+    let rest = 64 * turns;
+    turn_each(&sound[rest..], &mut out[rest..]);
 }
 
 // Turns 16-bit PCM into samples, from the start of a lent buffer.
+#[tactic(auto, using(crate::proofs::Turning::pairs_say))]
 pub fn from_pcm16(bytes: &[u8], out: &mut [i16])
     requires { length bytes.now / 2 ≤ length out.old }
     ensures buffer { out.new ≡ front (samples_in bytes.now) out.old }
 {
-    let n = bytes.len() / 2;
-    let mut i = 0;
-    while 32 <= n - i {
-        many_from_pcm16(bytes, i, out);
-        i += 32;
-    }
-    rest_from_pcm16(bytes, i, out);
-}
-
-// The four samples from i on of 8-bit PCM.
-fn four_of_pcm8(bytes: &[u8], i: usize) -> Four
-    requires { i + 4 ≤ length bytes.now }
-    ensures answer { result.first ∷ result.second ∷ result.third ∷ result.fourth ∷ [] ≡ take 4 (drop i (map eight bytes.now)) }
-{
-    Four {
-        first: from_eight(bytes[i]),
-        second: from_eight(bytes[i + 1]),
-        third: from_eight(bytes[i + 2]),
-        fourth: from_eight(bytes[i + 3]),
-    }
-}
-
-// Turns the eight values from i on of 8-bit PCM, all read before the first is written.
-fn eight_from_pcm8(bytes: &[u8], i: usize, out: &mut [i16])
-    requires i_in_bounds { i + 8 ≤ length bytes.now }
-    requires i_in_bounds_2 { i + 8 ≤ length out.old }
-    ensures buffer { Put out.old i (take 8 (drop i (map eight bytes.now))) out.new }
-{
-    let early = four_of_pcm8(bytes, i);
-    let late = four_of_pcm8(bytes, i + 4);
-    put_four(out, i, early);
-    put_four(out, i + 4, late);
-}
-
-// Turns the sixteen values from i on of 8-bit PCM.
-fn sixteen_from_pcm8(bytes: &[u8], i: usize, out: &mut [i16])
-    requires i_in_bounds { i + 16 ≤ length bytes.now }
-    requires i_in_bounds_2 { i + 16 ≤ length out.old }
-    ensures buffer { Put out.old i (take 16 (drop i (map eight bytes.now))) out.new }
-{
-    eight_from_pcm8(bytes, i, out);
-    eight_from_pcm8(bytes, i + 8, out);
-}
-
-// Turns the 64 values from i on of 8-bit PCM.
-fn many_from_pcm8(bytes: &[u8], i: usize, out: &mut [i16])
-    requires i_in_bounds { i + 64 ≤ length bytes.now }
-    requires i_in_bounds_2 { i + 64 ≤ length out.old }
-    ensures buffer { Put out.old i (take 64 (drop i (map eight bytes.now))) out.new }
-{
-    sixteen_from_pcm8(bytes, i, out);
-    sixteen_from_pcm8(bytes, i + 16, out);
-    sixteen_from_pcm8(bytes, i + 32, out);
-    sixteen_from_pcm8(bytes, i + 48, out);
-}
-
-// Turns the values from i on of 8-bit PCM, one by one.
-fn rest_from_pcm8(bytes: &[u8], i: usize, out: &mut [i16])
-    requires i_in_bounds { i ≤ length bytes.now }
-    requires bytes_in_bounds { length bytes.now ≤ length out.old }
-    ensures buffer { Put out.old i (drop i (map eight bytes.now)) out.new }
-{
-    let mut j = i;
-    while j < bytes.len() {
-        out[j] = from_eight(bytes[j]);
-        j += 1;
-    }
+    let (pairs, _) = bytes.as_chunks::<2>();
+    turn(pairs, out);
 }
 
 // Turns 8-bit PCM into samples, from the start of a lent buffer.
@@ -217,23 +136,16 @@ pub fn from_pcm8(bytes: &[u8], out: &mut [i16])
     requires { length bytes.now ≤ length out.old }
     ensures buffer { out.new ≡ front (map eight bytes.now) out.old }
 {
-    let n = bytes.len();
-    let mut i = 0;
-    while 64 <= n - i {
-        many_from_pcm8(bytes, i, out);
-        i += 64;
-    }
-    rest_from_pcm8(bytes, i, out);
+    turn(bytes, out);
 }
 
 // Turns samples into 16-bit PCM, from the start of a lent buffer.
+#[tactic(auto, using(crate::proofs::Turning::sound_turning))]
 pub fn to_pcm16(sound: &[i16], out: &mut [u8])
     requires { 2 * length sound.now ≤ length out.old }
     ensures buffer { out.new ≡ front (sound_bytes sound.now) out.old }
 {
-    let mut i = 0;
-    while i < sound.len() {
-        put_sample(out, 2 * i, sound[i]);
-        i += 1;
+    for (i, sample) in sound.iter().enumerate() {
+        put_sample(out, 2 * i, *sample);
     }
 }

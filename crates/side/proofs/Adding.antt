@@ -12,13 +12,10 @@ use Rattle.little.specs.Writing.{holding}
 use Rattle.units.specs.declared.Donation.{Donation}
 use Rattle.units.specs.declared.Frames.{Frames}
 use Rattle.units.specs.declared.Refusal.{Refusal}
-use Rattle.units.specs.declared.Refusal.TheVariants.{FormatWrong, TitlesWrong}
-use Rattle.units.specs.declared.Verdict.{Verdict}
-use Rattle.units.specs.declared.Verdict.TheVariants as verdict
-use Rattle.units.specs.Refusals.{file_limit}
+use Rattle.units.specs.declared.Refusal.TheVariants.{FormatWrong, NotASide, TitlesWrong}
+use Rattle.units.specs.Refusals.{file_limit, Verdict}
 use Rattle.units.specs.Checks.{check, decided, AllMet}
-use Rattle.riff.specs.declared.Spot.{Spot}
-use Rattle.riff.specs.Chunks.{pad_lost}
+use Rattle.riff.specs.Chunks.{pad_lost, Spot}
 use Rattle.riff.specs.Walk.{part_of}
 use Rattle.riff.specs.Laying.{pieces_of, file_bytes}
 use Rattle.formats.specs.declared.Format.{Format}
@@ -28,30 +25,27 @@ use Rattle.formats.proofs.Taken.{taken-two}
 use Rattle.tables.specs.Cues.{names_in}
 use Rattle.tables.proofs.BehindRules.{cues-few, plays-few}
 use Rattle.titles.specs.declared.Titles.{Titles}
-use Rattle.titles.specs.declared.Found.{Found}
 use Rattle.titles.specs.Titles.{entries_of, texts_of}
-use Rattle.titles.specs.Lists.{entries_in, titles_of, Stands, FoundIn}
+use Rattle.titles.specs.Lists.{entries_in, list_form, titles_of, Stands}
 use Rattle.titles.specs.Writing.{list_bytes, Short}
 use Rattle.titles.proofs.Round.{titles-many, rule-of, stands-short}
-use Rattle.titles.proofs.Lists.{texts-few as found-few}
+use Rattle.titles.proofs.Lists.{valid-few}
 use Rattle.rules.specs.declared.Record.{Record}
-use Rattle.rules.specs.declared.Reading.{Reading}
-use Rattle.rules.specs.Rules.{with_titles, record_checks, blank, bare, turned_away, reading_by}
+use Rattle.rules.specs.Rules.{with_titles, record_checks, blank, bare, reading_by, record_in, reading_verdict, Reading}
 use Rattle.reader.specs.Content.{reading, sound_in, titles_spot, titles_in, texts_in}
 use Rattle.reader.specs.Demands.{Refusing, TitlesTold}
 use Rattle.reader.proofs.Titles.{list-short, list-formed, titles-made, titles-told}
 use Rattle.reader.proofs.Demands.{sound-placed, refusing}
 use Rattle.reader.proofs.Kept.{content-taken, content-rules}
-use Rattle.writer.specs.declared.Written.{Written}
-use Rattle.writer.specs.declared.Written.TheVariants.{Refused}
-use Rattle.writer.specs.File.{size_of, fact_chunk, cues_chunk, plays_chunk, titles_chunk, parts_of, file_of, file_checks, right_titles, write_checks, written_by, writing_by, writing, written_verdict}
+use Rattle.writer.specs.File.{size_of, fact_chunk, cues_chunk, plays_chunk, titles_chunk, parts_of, file_of, file_checks, right_titles, write_checks, written_by, writing_by, writing, written_verdict, Written}
 use Rattle.writer.proofs.Settling.{format-refused}
-use Rattle.side.specs.Side.{is_side}
+use Rattle.side.specs.Side.{is_side, side_read}
 use Rattle.side.specs.Adding.{add_checks, add_verdict, with_song, WithList, new_record, add_judged, new_sound, new_file, added_by, adding, empty_side}
 use Rattle.side.specs.Demands.{Sent}
 use Rattle.side.proofs.Songs.{side-says}
 use Rattle.side.proofs.Answers.{verdict-says, place-says, taking}
 use Rattle.side.proofs.Joining.{new-right}
+use Rattle.std.specs.Prelude.{Err, Ok}
 
 -- ---- a record that is made, and then written without titles
 module _ {g m : Record} (e : g ≡ m) (x : Written) (w : List ℕ) where
@@ -62,21 +56,18 @@ module _ {g m : Record} (e : g ≡ m) (x : Written) (w : List ℕ) where
   made_held d f = f ∙ ap (λ (r : Record). holding (written_verdict x) (file_of r [] w) d) e
 
 -- ---- a record whose titles are those of a list: where they stand in it, it is written as with the texts by themselves
-module _ {m : Record} {l : List ℕ} {lost : Bool} (k : WithList m l lost) {f : Found} (w : FoundIn lost l f) {g : Record}
-    (e : g ≡ with_titles m f.titles) where
+module _ {m : Record} {l : List ℕ} {lost : Bool} (k : WithList m l lost) {f : Titles} (found : Stands l f) {g : Record}
+    (e : g ≡ with_titles m f) where
   abbrev texts : List ℕ
   texts = texts_of (entries_in l)
 
-  found : Stands l f.titles
-  found = w.stands (w.form ∙ k.form)
-
-  said : entries_of l f.titles ≡ entries_of texts m.titles
+  said : entries_of l f ≡ entries_of texts m.titles
   said = found.entries ∙ sym k.said ∙ ap (entries_of texts) (sym k.titles)
 
-  same_count : f.titles.count ≡ m.titles.count
+  same_count : f.count ≡ m.titles.count
   same_count = found.many ∙ sym (titles-many l) ∙ ap (λ (t : Titles). t.count) (sym k.titles)
 
-  same-part : titles_chunk l f.titles ≡ titles_chunk texts m.titles
+  same-part : titles_chunk l f ≡ titles_chunk texts m.titles
   same-part = λ i. record { there = leb 1 (same_count i); bytes = list_bytes (said i) }
 
   same-file : (v : List ℕ) → file_of g l v ≡ file_of m texts v
@@ -99,7 +90,7 @@ module _ {m : Record} {l : List ℕ} {lost : Bool} (k : WithList m l lost) {f : 
       ∙ ap (λ (r : Record). writing_by true r l v room) e
       ∙ (λ i. written_by (decided (record_checks m (size_of v) ++ (check (sym k.right i) TitlesWrong ∷ file_checks (whole i) room))) (size_of (whole i)))
     where
-      whole : file_of (with_titles m f.titles) l v ≡ file_of m texts v
+      whole : file_of (with_titles m f) l v ≡ file_of m texts v
       whole = sym (ap (λ (r : Record). file_of r l v) e) ∙ same-file v
 
   pub carried-held : (v d : List ℕ) (x : Written) {z : List ℕ} → z ≡ holding (written_verdict x) (file_of g l v) d
@@ -109,8 +100,8 @@ module _ {m : Record} {l : List ℕ} {lost : Bool} (k : WithList m l lost) {f : 
   pub carried-short : true ≡ true → Short l g.titles.list g.titles.count
   carried-short _ =
       subst (λ (r : Record). Short l r.titles.list r.titles.count) (sym e)
-      (stands-short (names_in m.cues) l f.titles found (rule-of (names_in m.cues) texts m.titles k.right) (sym found.entries ∙ said)
-      (found-few w k.form))
+      (stands-short (names_in m.cues) l f found (rule-of (names_in m.cues) texts m.titles k.right) (sym found.entries ∙ said)
+      (valid-few {lost = lost} (record { form = k.form; stands = found })))
 
   pub carried-list : length l ≤ file_limit
   carried-list = k.short
@@ -118,45 +109,24 @@ module _ {m : Record} {l : List ℕ} {lost : Bool} (k : WithList m l lost) {f : 
 pub ruleset carrying = (carried-written, carried-held, carried-short, carried-list)
 
 -- ---- two files that were read
-module _ (side : Reading) (w : List ℕ) (song : Reading) (v : List ℕ) (number : Donation) (limit : Frames) {x : Verdict}
-    (e : x ≡ add_verdict side w song v number limit) where
-  -- ---- the song has place
-  module _ (f : x ≡ verdict.Accepted) where
-    met : AllMet (add_checks side w song v number limit)
-    met = (verdict-says side w song v number limit (sym e ∙ f)).1
+module _ (side : Record) (w : List ℕ) (song : Record) (v : List ℕ) (number : Donation) (limit : Frames) {x : Verdict}
+    (e : x ≡ add_verdict (Ok side) w (Ok song) v number limit) (f : x ≡ Ok tt) where
+  met : AllMet (add_checks (Ok side) w (Ok song) v number limit)
+  met = (verdict-says (Ok side) w (Ok song) v number limit (sym e ∙ f)).1
 
-    placed : (side.made.cues.count < 64) × (side.made.frames.0 + song.made.frames.0 ≤ limit.0)
-    unfolding AllMet
-    placed = place-says side.made song.made.frames limit met.1.1.1.1.1.0
+  placed : (side.cues.count < 64) × (side.frames.0 + song.frames.0 ≤ limit.0)
+  unfolding AllMet
+  placed = place-says side song.frames limit met.1.1.1.1.1.0
 
-    pub side-stands : is_side side.made ≡ true
-    unfolding AllMet
-    side-stands = (side-says side met.0).1
+  pub side-stands : is_side side ≡ true
+  unfolding AllMet
+  side-stands = (side-says (Ok side) met.0).1
 
-    pub few-cues : side.made.cues.count < 64
-    few-cues = placed.0
+  pub few-cues : side.cues.count < 64
+  few-cues = placed.0
 
-    pub frames-fit : Fits w32 limit.0 → side.made.frames.0 + song.made.frames.0 < 4294967296
-    frames-fit l = let h = l.fits in omega (arith, placed.1)
-
--- ---- the record with one song more
-module _ (side : Reading) (w : List ℕ) (song : Reading) (v : List ℕ) (number : Donation) (limit : Frames) {x : Verdict}
-    (e : x ≡ add_verdict side w song v number limit) (m : Record) where
-  pub grow-refused : {r : Refusal} {y : Reading} → x ≡ verdict.Refused r → y ≡ turned_away r → y ≡ reading_by (add_verdict side w song v number limit) m
-  grow-refused f g = g ∙ ap (λ (z : Verdict). reading_by z m) (sym f ∙ e)
-
-  pub grow-taken : {g : Record} → x ≡ verdict.Accepted → g ≡ m → record { verdict = x; made = g } ≡ reading_by (add_verdict side w song v number limit) m
-  grow-taken f h = (λ i. record { verdict = f i; made = h i }) ∙ ap (λ (z : Verdict). reading_by z m) (sym f ∙ e)
-
-pub ruleset reading-added = (side-stands, few-cues, frames-fit, grow-refused, grow-taken)
-
--- ---- the files
-pub files-grown : (s t : List ℕ) (number : Donation) (limit : Frames) {side song g : Reading} {w v : List ℕ}
-    → side ≡ reading s → w ≡ sound_in s → song ≡ reading t → v ≡ sound_in t
-    → g ≡ reading_by (add_verdict side w song v number limit) (with_song side.made number song.made.frames)
-    → g ≡ reading_by (add_judged s t number limit) (new_record s t number)
-files-grown s t number limit a b c d e =
-    e ∙ (λ i. reading_by (add_verdict (a i) (b i) (c i) (d i) number limit) (with_song (a i).made number (c i).made.frames))
+  pub frames-fit : Fits w32 limit.0 → side.frames.0 + song.frames.0 < 4294967296
+  frames-fit l = let h = l.fits in omega (arith, placed.1)
 
 -- the list of the side's titles
 module _ (s : List ℕ) {spot : Spot} (h : spot ≡ titles_spot s) {l : List ℕ} (i : l ≡ part_of s spot []) where
@@ -167,13 +137,13 @@ module _ (s : List ℕ) {spot : Spot} (h : spot ≡ titles_spot s) {l : List ℕ
   unfolding titles_in
   texts-so = ap (λ (x : List ℕ). texts_of (entries_in x)) list-so
 
-  pub list-carried : {m : Record} {lost : Bool} → m.titles ≡ (reading s).made.titles → right_titles m (texts_in s) ≡ true → lost ≡ pad_lost spot
+  pub list-carried : {m : Record} {lost : Bool} → m.titles ≡ (record_in (reading s)).titles → right_titles m (texts_in s) ≡ true → lost ≡ pad_lost spot
       → WithList m l lost
   unfolding titles_in TitlesTold
   list-carried {m} a r j =
       record {
-        short = list-short s h i;
-        form = list-formed s h i j;
+        short = subst (λ (x : List ℕ). length x ≤ file_limit) (sym i) (list-short s h);
+        form = (λ k. list_form (j k) (i k)) ∙ list-formed s h;
         titles = a ∙ titles-made s ∙ ap titles_of (sym list-so);
         said =
             ap (λ (b : List ℕ). entries_of b (titles_of l)) (sym (append-nil (texts_of (entries_in l))))
@@ -192,69 +162,80 @@ module _ (s : List ℕ) {spot : Spot} (h : spot ≡ titles_spot s) {l : List ℕ
     files-held r old q = q ∙ (λ k. holding (written_verdict r) (file_of m (texts-so k) (b k ++ d k)) old)
 
 -- the answer
-module _ (s t : List ℕ) (number : Donation) (limit : Frames) {g : Reading} (e : g ≡ reading_by (add_judged s t number limit) (new_record s t number)) where
-  told : add_judged s t number limit ≡ g.verdict
-  told = by (add_judged s t number limit) (new_record s t number) ∙ sym (ap (λ (x : Reading). x.verdict) e)
-    where
-      by : (u : Verdict) (m : Record) → u ≡ (reading_by u m).verdict
-      by verdict.Accepted m = refl
-      by (verdict.Refused r) m = refl
+module _ (s t : List ℕ) (number : Donation) (limit : Frames) (room : ℕ) where
+  abbrev writes : Written
+  writes = writing (new_record s t number) (texts_in s) (new_sound s t) room
 
-  pub add-refused : (room : ℕ) {r : Refusal} → g.verdict ≡ verdict.Refused r → Refused r ≡ adding s t number limit room
-  unfolding adding
-  add-refused room f = sym (ap (λ (u : Verdict). added_by u (writing (new_record s t number) (texts_in s) (new_sound s t) room)) (told ∙ f))
+  pub song_refused : {r : Refusal} → reading t ≡ Err r → Err r ≡ adding s t number limit room
+  unfolding adding add_verdict
+  song_refused e = simp e
 
-  module _ (f : g.verdict ≡ verdict.Accepted) where
-    made_so : g.made ≡ new_record s t number
-    made_so = ap (λ (x : Reading). x.made) (e ∙ ap (λ (u : Verdict). reading_by u (new_record s t number)) (told ∙ f))
+  pub side_refused : {m : Record} {r : Refusal} → reading t ≡ Ok m → reading s ≡ Err r → Err NotASide ≡ adding s t number limit room
+  unfolding adding add_verdict decided side_read
+  side_refused e f = simp (e, f)
 
-    pub add-titles : g.made.titles ≡ (reading s).made.titles
-    unfolding with_song
-    add-titles = ap (λ (m : Record). m.titles) made_so
+  module _ {old new : Record} (a : reading s ≡ Ok old) (b : reading t ≡ Ok new) {w v : List ℕ} (c : w ≡ sound_in s) (d : v ≡ sound_in t)
+      {x : Verdict} (e : x ≡ add_verdict (Ok old) w (Ok new) v number limit) where
+    judged_so : add_judged s t number limit ≡ x
+    judged_so = (λ i. add_verdict (a i) (sym c i) (b i) (sym d i) number limit) ∙ sym e
 
-    pub add_right : right_titles g.made (texts_in s) ≡ true
-    add_right =
-        let x : Sent = record { file = t; number = number; limit = limit; room = 0 } in
-        let k = verdict-says (reading s) (sound_in s) (reading t) (sound_in t) number limit (told ∙ f) in
-        ap (λ (m : Record). right_titles m (texts_in s)) made_so ∙ new-right (taking s x k.0 k.1)
-
-    pub add-written : (room : ℕ) {x : Written} → x ≡ writing g.made (texts_in s) (new_sound s t) room → x ≡ adding s t number limit room
+    pub add_refused : {r : Refusal} → x ≡ Err r → Err r ≡ adding s t number limit room
     unfolding adding
-    add-written room q =
-        q
-        ∙ ap (λ (m : Record). writing m (texts_in s) (new_sound s t) room) made_so
-        ∙ sym (ap (λ (u : Verdict). added_by u (writing (new_record s t number) (texts_in s) (new_sound s t) room)) (told ∙ f))
+    add_refused f = sym (ap (λ (u : Verdict). added_by u writes) (judged_so ∙ f))
 
-    pub add-held : (r : Written) (old : List ℕ) {z : List ℕ} → z ≡ holding (written_verdict r) (file_of g.made (texts_in s) (new_sound s t)) old
-        → z ≡ holding (written_verdict r) (new_file s t number) old
-    unfolding new_file
-    add-held r old q = q ∙ ap (λ (m : Record). holding (written_verdict r) (file_of m (texts_in s) (new_sound s t)) old) made_so
+    module _ (f : x ≡ Ok tt) {g : Record} (h : g ≡ with_song old number new.frames) where
+      made_so : g ≡ new_record s t number
+      made_so = h ∙ (λ i. with_song (record_in (sym a i)) number (record_in (sym b i)).frames)
 
-pub ruleset file-added = (add-refused, add-titles, add_right, add-written, add-held)
+      add_titles : g.titles ≡ (record_in (reading s)).titles
+      unfolding with_song
+      add_titles = ap (λ (m : Record). m.titles) made_so
+
+      add_right : right_titles g (texts_in s) ≡ true
+      add_right =
+          let y : Sent = record { file = t; number = number; limit = limit; room = 0 } in
+          let k = verdict-says (reading s) (sound_in s) (reading t) (sound_in t) number limit (judged_so ∙ f) in
+          ap (λ (m : Record). right_titles m (texts_in s)) made_so ∙ new-right (taking s y k.0 k.1)
+
+      module _ {spot : Spot} (p : spot ≡ titles_spot s) {l : List ℕ} (q : l ≡ part_of s spot []) where
+        pub add_list : {lost : Bool} → lost ≡ pad_lost spot → WithList g l lost
+        add_list j = list-carried s p q add_titles add_right j
+
+        pub add_written : {y : Written} → y ≡ writing g (texts_of (entries_in l)) (w ++ v) room → y ≡ adding s t number limit room
+        unfolding adding
+        add_written k =
+            files-written s p q t c d g room k
+            ∙ ap (λ (m : Record). writing m (texts_in s) (new_sound s t) room) made_so
+            ∙ sym (ap (λ (u : Verdict). added_by u writes) (judged_so ∙ f))
+
+        pub add_held : (y : Written) (to : List ℕ) {z : List ℕ} → z ≡ holding (written_verdict y) (file_of g (texts_of (entries_in l)) (w ++ v)) to
+            → z ≡ holding (written_verdict y) (new_file s t number) to
+        unfolding new_file
+        add_held y to k =
+            files-held s p q t c d g y to k ∙ ap (λ (m : Record). holding (written_verdict y) (file_of m (texts_in s) (new_sound s t)) to) made_so
 
 -- no file that is read has more than 64 cues or entries
-read-few : (s : List ℕ) → ((reading s).made.cues.count ≤ 64) × ((reading s).made.playlist.count ≤ 64)
+read-few : (s : List ℕ) → ((record_in (reading s)).cues.count ≤ 64) × ((record_in (reading s)).playlist.count ≤ 64)
 unfolding Refusing
-read-few s = by (reading s).verdict refl
+read-few s = by (reading_verdict (reading s)) refl
   where
-    by : (v : Verdict) → (reading s).verdict ≡ v → ((reading s).made.cues.count ≤ 64) × ((reading s).made.playlist.count ≤ 64)
-    by verdict.Accepted e =
-        let m : Record = (reading s).made in
+    by : (v : Verdict) → reading_verdict (reading s) ≡ v → ((record_in (reading s)).cues.count ≤ 64) × ((record_in (reading s)).playlist.count ≤ 64)
+    by (Ok _) e =
+        let m : Record = (record_in (reading s)) in
         let k = content-rules s (content-taken s refl e refl) in
         (cues-few m.cues m.frames k.cues, plays-few m.playlist m.cues m.frames k.plays)
-    by (verdict.Refused r) e =
-        let b : (reading s).made ≡ blank = (refusing s r e).made in
+    by (Err r) e =
+        let b : record_in (reading s) ≡ blank = (refusing s r e).made in
         (rw b (omega arith), rw b (omega arith))
 
-pub read-cues : (s : List ℕ) {x : Reading} → x ≡ reading s → x.made.cues.count ≤ 64
-read-cues s e = rw e (read-few s).0
+module _ (s : List ℕ) {m : Record} (e : reading s ≡ Ok m) where
+  pub read_cues : m.cues.count ≤ 64
+  read_cues = subst (λ (x : Reading). (record_in x).cues.count ≤ 64) e (read-few s).0
 
-pub read-plays : (s : List ℕ) {x : Reading} → x ≡ reading s → x.made.playlist.count ≤ 64
-read-plays s e = rw e (read-few s).1
+  pub read_plays : m.playlist.count ≤ 64
+  read_plays = subst (λ (x : Reading). (record_in x).playlist.count ≤ 64) e (read-few s).1
 
-pub ruleset files-read = (sound-placed, files-grown, read-cues, read-plays)
-
-pub ruleset files-joined = (sound-placed, list-carried, files-written, files-held)
+pub ruleset adds = (sound-placed, side-stands, few-cues, frames-fit, song_refused, side_refused, add_refused, add_list, add_written, add_held, read_cues, read_plays)
 
 -- ---- an empty side
 pub empty-record : (channels rate : ℕ) {f : Format} {r : Record} → f ≡ plain_format channels rate 16 → r ≡ bare f (record { 0 = 0 })
@@ -263,11 +244,11 @@ unfolding empty_side
 empty-record channels rate e g = g ∙ ap (λ (f : Format). bare f (record { 0 = 0 })) e
 
 module _ (channels rate room : ℕ) where
-  pub empty-channels : 2 < channels → Refused FormatWrong ≡ writing (empty_side channels rate) [] [] room
+  pub empty-channels : 2 < channels → Err FormatWrong ≡ writing (empty_side channels rate) [] [] room
   unfolding empty_side plain_format
   empty-channels h = by (format_rule (empty_side channels rate).format) refl
     where
-      by : (b : Bool) → format_rule (empty_side channels rate).format ≡ b → Refused FormatWrong ≡ writing (empty_side channels rate) [] [] room
+      by : (b : Bool) → format_rule (empty_side channels rate).format ≡ b → Err FormatWrong ≡ writing (empty_side channels rate) [] [] room
       by true e = absurd (omega (arith, taken-two (empty_side channels rate).format e))
       by false e = sym (format-refused (right_titles (empty_side channels rate) []) (empty_side channels rate) [] [] room e)
 

@@ -11,7 +11,6 @@ use Rattle.little.specs.Same.{same_bytes}
 use Rattle.little.proofs.Comparing.{same-itself, same_not}
 use Rattle.units.specs.declared.BytePlace.{BytePlace}
 use Rattle.units.specs.declared.Donation.{Donation}
-use Rattle.units.specs.declared.Verdict.TheVariants.{Accepted}
 use Rattle.formats.specs.declared.Format.{Format}
 use Rattle.rules.specs.declared.Record.{Record}
 use Rattle.reader.specs.Content.{holds, content_of, reading, sound_in, texts_in, file_format, file_frames}
@@ -28,6 +27,8 @@ use Rattle.side.proofs.Answers.{added-says, empty-added, listed-added}
 use Rattle.side.proofs.Sides.{held-made, held-sound, held-side, held-songs, standing, song-long}
 use Rattle.side.proofs.Listed.{listed-behind, sound-behind, sound-some}
 use Rattle.side.proofs.Joining.{new-fits, new-kept, new-bytes, new-texts, new-side, new-songs, new-titles, new-long}
+use Rattle.std.specs.Prelude.{Ok}
+use Rattle.rules.specs.Rules.{reading_verdict}
 
 -- ---- a song that is added
 pub grows : Grows
@@ -124,7 +125,7 @@ module _ {s : List ℕ} {x : Sent} {n : BytePlace} (g : Grown s x n) (f : is_lis
 
 -- what a song under a listed number is told rests on the format of the side, and on the sound under the number
 pub told-listed : (s : List ℕ) (x : Sent) {f : Format} {sound : List ℕ} → is_side_file s ≡ true → is_listed x.number (songs_in s) ≡ true
-    → (reading x.file).verdict ≡ Accepted → suits f (file_format x.file) ≡ true
+    → reading_verdict (reading x.file) ≡ Ok tt → suits f (file_format x.file) ≡ true
     → file_format s ≡ f → listed_sound x.number (songs_in s) ≡ sound → Listed sound s x
 unfolding OnceListed
 told-listed s x a l v c f e =

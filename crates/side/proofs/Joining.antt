@@ -17,7 +17,7 @@ use Rattle.tables.specs.More.{cues_with}
 use Rattle.tables.proofs.Behind.{names_more}
 use Rattle.titles.specs.Titles.{entries_of, entries_rule}
 use Rattle.titles.proofs.Round.{rule-more}
-use Rattle.rules.specs.Rules.{Writable}
+use Rattle.rules.specs.Rules.{Writable, record_in}
 use Rattle.rules.specs.Written.{record_kept, RecordFits}
 use Rattle.reader.specs.Content.{reading, sound_in, titles_in, texts_in, file_format, file_frames}
 use Rattle.reader.specs.Demands.{TitlesTold}
@@ -40,9 +40,9 @@ module _ {s : List ℕ} {x : Sent} (k : Taking s x) where
   number = x.number
 
   abbrev frames : Frames
-  frames = (reading t).made.frames
+  frames = (record_in (reading t)).frames
 
-  stands : Standing (reading s).made (sound_in s)
+  stands : Standing (record_in (reading s)) (sound_in s)
   stands = standing s k.side
 
   long : length (sound_in t) ≡ (file_format s).align * file_frames t
@@ -75,8 +75,8 @@ module _ {s : List ℕ} {x : Sent} (k : Taking s x) where
   pub new-right : right_titles (new_record s t number) (texts_in s) ≡ true
   unfolding with_song
   new-right =
-      let c : Cues = (reading s).made.cues in
-      let x : Cue = record { name = number; position = (reading s).made.frames; place = (reading s).made.frames } in
+      let c : Cues = (record_in (reading s)).cues in
+      let x : Cue = record { name = number; position = (record_in (reading s)).frames; place = (record_in (reading s)).frames } in
       read-right-for s (names_in (cues_with c x))
       (ap (λ (names : List ℕ). entries_rule names (titles_in s)) (names_more c x stands.cue_room k.few)
       ∙ rule-more (names_in c) number.0 (titles_in s) (read-rule s))
@@ -86,7 +86,7 @@ module _ {s : List ℕ} {x : Sent} (k : Taking s x) where
 
   pub new-titles : entries_of (texts_in s) (new_record s t number).titles ≡ titles_in s
   unfolding with_song TitlesTold
-  new-titles = ap (λ (b : List ℕ). entries_of b (reading s).made.titles) (sym (append-nil (texts_in s))) ∙ titles-told s []
+  new-titles = ap (λ (b : List ℕ). entries_of b (record_in (reading s)).titles) (sym (append-nil (texts_in s))) ∙ titles-told s []
 
   pub new-long : length (new_file s t number) ≡ side_size (file_format s) (length (songs_in s) + 1) (titles_in s) (file_frames s + file_frames t)
   unfolding new_file

@@ -10,7 +10,7 @@ use lib.ListN.{length, take, drop, get_or, length-map, length-take}
 use lib.Seq.{get_or-take}
 use mir.Syntax.{w16, w32, w64}
 use mir.Val.{Fits}
-use borrow.Author.Tests.{lt-ltb, le-ltb, lt-leb, le-leb, not-true, not-false}
+use borrow.Author.Tests.{ltb-false, lt-ltb, le-ltb, lt-leb, le-leb, not-true, not-false}
 use Rattle.little.specs.Same.{same_bytes}
 use Rattle.lists.specs.Among.{index_in, has}
 use Rattle.units.specs.declared.BytePlace.{BytePlace}
@@ -18,8 +18,6 @@ use Rattle.units.specs.declared.Donation.{Donation}
 use Rattle.units.specs.declared.Frames.{Frames}
 use Rattle.units.specs.declared.Refusal.{Refusal}
 use Rattle.units.specs.declared.Refusal.TheVariants.{SongEmptyOrDifferent, NoPlaceOnSide, AlreadyListed}
-use Rattle.units.specs.declared.Verdict.{Verdict}
-use Rattle.units.specs.declared.Verdict.TheVariants.{Accepted, Refused}
 use Rattle.units.specs.Checks.{Check, check, decided, and_then}
 use Rattle.units.proofs.Checks.{check-fails, check-met}
 use Rattle.formats.specs.declared.Format.{Format}
@@ -33,12 +31,14 @@ use Rattle.tables.specs.More.{cues_with, plays_with}
 use Rattle.tables.proofs.Putting.{array_long}
 use Rattle.tables.proofs.Behind.{names-first}
 use Rattle.rules.specs.declared.Record.{Record}
-use Rattle.rules.specs.declared.Reading.{Reading}
 use Rattle.rules.specs.Written.{RecordFits}
 use Rattle.rules.proofs.Typed.{record-typed}
 use Rattle.side.specs.Side.{cue_list, play_list, is_side, side_read, bytes_of_frames, frames_at, sound_at, songs_of, songs_held, is_listed, listed_sound}
 use Rattle.side.specs.Adding.{once_more, has_place, place_checks, add_checks, add_verdict, with_song}
 use Rattle.side.proofs.Songs.{songs-named, side-tiled, lists-long, cues-many, counts-agree, side-says}
+use Rattle.units.specs.Refusals.{Verdict}
+use Rattle.std.specs.Prelude.{Err, Ok}
+use Rattle.rules.specs.Rules.{record_in, reading_verdict, Reading}
 
 -- ---- the sound of a song
 pub product-fits : {a b : ℕ} → Fits w16 a → Fits w32 b → Fits w64 (a * b)
@@ -120,38 +120,41 @@ module _ (m : Record) (w : List ℕ) (number : Donation) {found : ℕ} (few : m.
       within : index_in number.0 (map name_of (cue_list m)) < length (cue_list m)
       within = omega (arith, index, many)
 
+  names-long : length (names_in m.cues) ≡ m.cues.count
+  names-long = ap length names ∙ length-map (cue_list m) name_of ∙ many
+
+  -- the number is listed where the search found it
   module _ (frames : Frames) (v : List ℕ) (limit : Frames) where
-    pub place-listed : {r : Verdict} → found < m.cues.count → r ≡ once_more (sound_at m w found) v
+    pub place-listed : {r : Verdict} → found < length (names_in m.cues) → r ≡ once_more (sound_at m w found) v
         → r ≡ decided (place_checks m w frames v number limit)
     unfolding decided once_more
     place-listed h q =
+        let within : found < m.cues.count = omega (arith, names-long) in
         q
-        ∙ ap (λ (l : List ℕ). once_more l v) (sound h)
+        ∙ ap (λ (l : List ℕ). once_more l v) (sound within)
         ∙ by (same_bytes (listed_sound number (songs_held m w)) v)
-        ∙ simp (listed, lt-ltb found m.cues.count h)
+        ∙ simp (listed, lt-ltb found m.cues.count within)
       where
-        by : (b : Bool) → Refused (cond b AlreadyListed SongEmptyOrDifferent)
-            ≡ cond (not b) (Refused SongEmptyOrDifferent) (Refused AlreadyListed)
+        by : (b : Bool) → ◌≡◌ {A = Verdict} (Err (cond b AlreadyListed SongEmptyOrDifferent))
+            (cond (not b) (Err SongEmptyOrDifferent) (Err AlreadyListed))
         by true = refl
         by false = refl
 
-    module _ (h : m.cues.count ≤ found) {b : Bool} (p : b ≡ has_place m frames limit) where
-      pub place_none : not b ≡ true → Refused NoPlaceOnSide ≡ decided (place_checks m w frames v number limit)
+    -- and not where it found nothing
+    module _ (h : has number.0 (names_in m.cues) ≡ false) {b : Bool} (p : b ≡ has_place m frames limit) where
+      unlisted : is_listed number (songs_held m w) ≡ false
+      unfolding has
+      unlisted =
+          let past = ltb-false (index_in number.0 (names_in m.cues)) (length (names_in m.cues)) h in
+          listed ∙ le-ltb found m.cues.count (omega (arith, names-long, e))
+
+      pub place_none : not b ≡ true → Err NoPlaceOnSide ≡ decided (place_checks m w frames v number limit)
       unfolding decided
-      place_none f = simp (listed, le-ltb found m.cues.count h, sym p ∙ not-true b f)
+      place_none f = simp (unlisted, sym p ∙ not-true b f)
 
-      pub place-free : not b ≡ false → Accepted ≡ decided (place_checks m w frames v number limit)
+      pub place-free : not b ≡ false → Ok tt ≡ decided (place_checks m w frames v number limit)
       unfolding decided
-      place-free f = simp (listed, le-ltb found m.cues.count h, sym p ∙ not-false b f)
-
-module _ (old v : List ℕ) {x : List ℕ} (o : x ≡ old) {b : Bool} (e : b ≡ same_bytes x v) where
-  pub once-same : b ≡ true → Refused AlreadyListed ≡ once_more old v
-  unfolding once_more
-  once-same f = simp (← o, sym e ∙ f)
-
-  pub once-other : b ≡ false → Refused SongEmptyOrDifferent ≡ once_more old v
-  unfolding once_more
-  once-other f = simp (← o, sym e ∙ f)
+      place-free f = simp (unlisted, sym p ∙ not-false b f)
 
 pub ruleset parting = (product-fits, frames-part, part-place)
 
@@ -159,30 +162,7 @@ pub ruleset parting = (product-fits, frames-part, part-place)
 pub cues-roomy : {m : Record} → RecordFits m → length m.cues.list ≡ 64
 cues-roomy f = f.cues.room
 
-pub ruleset placing = (array_long, record-typed, cues-roomy, place-listed, place_none, place-free, once-same, once-other)
-
--- ---- the song file's refusals, and then the checks in their order
-module _ (side : Reading) (w : List ℕ) (song : Reading) (v : List ℕ) (number : Donation) (limit : Frames) where
-  pub song-refused : {r : Refusal} → song.verdict ≡ Refused r → song.verdict ≡ add_verdict side w song v number limit
-  unfolding add_verdict
-  song-refused e = simp e
-
-  pub song-taken : {r : Verdict} → song.verdict ≡ Accepted → r ≡ decided (add_checks side w song v number limit)
-      → r ≡ add_verdict side w song v number limit
-  unfolding add_verdict
-  song-taken e f = f ∙ sym (ap (λ (u : Verdict). and_then u (decided (add_checks side w song v number limit))) e)
-
-module _ (n : ℕ) (r : Refusal) (cs : List Check) where
-  pub no_frames : {least : ℕ} → n < least → least ≤ 1 → Refused r ≡ decided (check (leb 1 n) r ∷ cs)
-  no_frames h k = check-fails r cs refl (ap not (lt-leb 1 n (omega arith)))
-
-  pub some-frames : {v : Verdict} → 1 ≤ n → v ≡ decided cs → v ≡ decided (check (leb 1 n) r ∷ cs)
-  some-frames h = check-met r cs refl (ap not (le-leb 1 n h))
-
-pub read-is-side : (side : Reading) {a : Bool} → a ≡ side_read side → not a ≡ false → is_side side.made ≡ true
-read-is-side side {a} e f = (side-says side (sym e ∙ not-false a f)).1
-
-pub ruleset settling = (song-refused, song-taken, check-fails, check-met, no_frames, some-frames, read-is-side)
+pub ruleset placing = (array_long, record-typed, cues-roomy, place-listed, place_none, place-free)
 
 -- ---- the record with one song more
 pub song-made : (m : Record) (number : Donation) (frames : Frames) {c : Cues} {p : Playlist}

@@ -9,23 +9,21 @@ use Rattle.little.proofs.Promise.{one_each}
 use Rattle.units.specs.declared.BytePlace.{BytePlace}
 use Rattle.units.specs.declared.Donation.{Donation}
 use Rattle.units.specs.declared.Frames.{Frames}
-use Rattle.units.specs.declared.Verdict.{Verdict}
-use Rattle.units.specs.declared.Verdict.TheVariants as verdict
 use Rattle.reader.specs.Content.{reading, sound_in, texts_in}
-use Rattle.writer.specs.declared.Written.{Written}
-use Rattle.writer.specs.declared.Written.TheVariants.{Bytes}
-use Rattle.writer.specs.File.{file_of, right_titles, writing, written_verdict, written_number}
+use Rattle.writer.specs.File.{file_of, right_titles, writing, written_verdict, written_number, Written}
 use Rattle.writer.proofs.Settling.{told-long}
 use Rattle.side.specs.Adding.{add_verdict, new_record, new_sound, new_file, added_by, adding, empty_side}
 use Rattle.side.specs.Demands.{EmptyNumbered, AddNumbered}
 use Rattle.side.specs.Promise.{AddPromise, OneAdding, EmptyPromise, OneEmpty}
 use Rattle.side.proofs.EmptySide.{empty-numbered}
 use Rattle.side.proofs.Rows.{numbered}
+use Rattle.units.specs.Refusals.{Verdict}
+use Rattle.std.specs.Prelude.{Err, Ok}
 
 -- where a song is added, the answer is writing's
-passed : (v : Verdict) {x : Written} {n : BytePlace} → added_by v x ≡ Bytes n → x ≡ Bytes n
-passed verdict.Accepted e = e
-passed (verdict.Refused r) e = let z : ◌≡◌ {A = ℕ} 0 1 = cc in absurd (omega arith)
+passed : (v : Verdict) {x : Written} {n : BytePlace} → added_by v x ≡ Ok n → x ≡ Ok n
+passed (Ok _) e = e
+passed (Err r) e = let z : ◌≡◌ {A = ℕ} 0 1 = cc in absurd (omega arith)
 
 pub add_kept : (s t : List ℕ) (number : Donation) (limit : Frames) (d : List ℕ) {r : Written} {e : List ℕ}
     → r ≡ adding s t number limit (length d) → e ≡ holding (written_verdict r) (new_file s t number) d → AddPromise s t number limit d r e

@@ -9,7 +9,6 @@ use lib.ListN.{length}
 use lib.Pow.{are_bytes}
 use borrow.Author.Tests.{eqb-false, ne_eqb}
 use Rattle.formats.specs.declared.Format.{Format}
-use Rattle.writer.specs.declared.Written.TheVariants.{Bytes}
 use Rattle.writer.specs.File.{size_of}
 use Rattle.writer.proofs.Demands.{accepted}
 use Rattle.side.specs.Side.{Song, is_side_file, songs_in, is_listed}
@@ -22,6 +21,7 @@ use Rattle.side.proofs.Listed.{neither, listed-behind}
 use Rattle.side.proofs.Demands.{grows, songs-grown}
 use Rattle.side.proofs.Joining.{new-rules, new-right, new-long}
 use Rattle.reader.specs.Content.{titles_in, texts_in, file_format, file_frames}
+use Rattle.std.specs.Prelude.{Ok}
 
 -- ---- songs that a side s can take, one after the other: the numbers are new to it, and all is within the limits
 unfoldable pub NoneListed : List Song → List Sent → Type 0
@@ -73,7 +73,7 @@ module _ (s : List ℕ) (x : Sent) (xs : List Sent) (k : Ready s (x ∷ xs)) whe
         within = k.placed.0.frames;
       }
 
-  pub first-written : answer_to s x ≡ Bytes (size_of new)
+  pub first-written : answer_to s x ≡ Ok (size_of new)
   unfolding new_file AllFit
   first-written =
       let h = first_taken in

@@ -13,14 +13,11 @@ use Rattle.lists.proofs.Laws.{by_eqb}
 use Rattle.units.specs.declared.Donation.{Donation}
 use Rattle.units.specs.declared.Frames.{Frames}
 use Rattle.units.specs.declared.Refusal.TheVariants.{LengthOutOfRange, OutputTooSmall}
-use Rattle.units.specs.declared.Verdict.{Verdict}
-use Rattle.units.specs.declared.Verdict.TheVariants as verdict
-use Rattle.units.specs.Refusals.{file_limit, verdict_number}
+use Rattle.units.specs.Refusals.{file_limit, verdict_number, Verdict}
 use Rattle.units.specs.Checks.{Check, check, decided, and_then, number_by, number_or, AllMet}
 use Rattle.units.proofs.Checks.{all-met, number-row, number-then, then-decided}
 use Rattle.reader.specs.Content.{reading, sound_in, texts_in, file_format, file_frames}
-use Rattle.writer.specs.declared.Written.{Written}
-use Rattle.writer.specs.File.{written_number}
+use Rattle.writer.specs.File.{written_number, Written}
 use Rattle.writer.specs.Demands as below
 use Rattle.writer.proofs.Demands as below-proofs
 use Rattle.side.specs.Side.{is_side_file, songs_in, is_listed, listed_sound}
@@ -30,6 +27,8 @@ use Rattle.side.proofs.Growing.{songs-count}
 use Rattle.side.proofs.Answers.{Taking, checks, taking, writes}
 use Rattle.side.proofs.Sides.{standing}
 use Rattle.side.proofs.Joining.{new-rules, new-right}
+use Rattle.std.specs.Prelude.{Err, Ok}
+use Rattle.rules.specs.Rules.{record_in, reading_verdict}
 
 -- ---- tests the other way round
 pub not-leb : (a b : ℕ) → not (leb a b) ≡ ltb b a
@@ -55,18 +54,18 @@ not_some n =
     by_eqb n 0 (λ q. not (leb 1 n) ≡ q) (λ e. ap not (lt-leb 1 n (omega arith))) (λ e. ap not (le-leb 1 n (omega arith)))
 
 -- ---- the rows of the checks, and behind them those of writing, which may take the checks as met
-answer-row : (u : Verdict) (cs ds : List Check) (x : Written) → (u ≡ verdict.Accepted → AllMet cs → written_number x ≡ number_by ds)
+answer-row : (u : Verdict) (cs ds : List Check) (x : Written) → (u ≡ Ok tt → AllMet cs → written_number x ≡ number_by ds)
     → written_number (added_by (and_then u (decided cs)) x) ≡ number_or u (number_by (cs ++ ds))
-answer-row (verdict.Refused r) cs ds x f = refl
-answer-row verdict.Accepted cs ds x f =
+answer-row (Err r) cs ds x f = refl
+answer-row (Ok _) cs ds x f =
     by (decided cs) refl
     ∙ sym (number-then (decided cs) (decided ds))
     ∙ ap verdict_number (sym (then-decided cs ds))
     ∙ number-row (cs ++ ds)
   where
     by : (v : Verdict) → decided cs ≡ v → written_number (added_by v x) ≡ number_or v (verdict_number (decided ds))
-    by verdict.Accepted e = f refl (all-met cs e) ∙ sym (number-row ds)
-    by (verdict.Refused r) e = refl
+    by (Ok _) e = f refl (all-met cs e) ∙ sym (number-row ds)
+    by (Err r) e = refl
 
 -- the two checks on a listed number are one row
 listed-row : (l q : Bool) (n : ℕ) → cond (not (not (l && q))) 18 (cond (not (not l)) 16 n) ≡ cond l (cond q 18 16) n
@@ -91,11 +90,11 @@ module _ (s t : List ℕ) (number : Donation) (limit : Frames) (room : ℕ) wher
   sizes = check (leb new file_limit) LengthOutOfRange ∷ check (leb new room) OutputTooSmall ∷ []
 
   place-row : is_side_file s ≡ true
-      → not (has_place (reading s).made (reading t).made.frames limit)
+      → not (has_place (record_in (reading s)) (record_in (reading t)).frames limit)
       ≡ (leb 64 (length (songs_in s)) || ltb limit.0 (file_frames s + file_frames t))
   unfolding has_place
   place-row e =
-      let n : ℕ = (reading s).made.cues.count in
+      let n : ℕ = (record_in (reading s)).cues.count in
       let x : ℕ = file_frames s + file_frames t in
       let c = songs-count (standing s e) in
       not-both (ltb n 64) (leb x limit.0)
@@ -115,9 +114,9 @@ unfolding AddNumbered adding add_verdict number_by
 numbered s t number limit room =
     let x = sent s t number limit room in
     let n = new s t number limit room in
-    answer-row (reading t).verdict (checks s x) (sizes s t number limit room) (writes s x)
+    answer-row (reading_verdict (reading t)) (checks s x) (sizes s t number limit room) (writes s x)
     (λ a m. size-rows s t number limit room (taking s x a m))
-    ∙ ap (number_or (reading t).verdict)
+    ∙ ap (number_or (reading_verdict (reading t)))
     (side-row (is_side_file s) (λ e i.
     cond (not (suits (file_format s) (file_format t))) 9
     (cond (not_some (file_frames t) i) 16

@@ -9,8 +9,6 @@ use lib.Pow.{are_bytes}
 use borrow.Author.Tests.{eqb-true}
 use Rattle.units.specs.declared.Donation.{Donation}
 use Rattle.rules.specs.declared.Record.{Record}
-use Rattle.writer.specs.declared.Written.{Written}
-use Rattle.writer.specs.declared.Written.TheVariants.{Bytes, Refused}
 use Rattle.side.specs.Side.{Song, cue_list, play_list, tiled, songs_held, is_side_file, songs_in, is_listed, listed_sound}
 use Rattle.side.specs.Demands.{Sent, answer_to, file_with, song_from, side_after, add_all, in_row, Grown, Grows, AllFit, AllBytewise, Keeps, NoneLost, AllAdded, StillListed, SentAgain, SentTwice}
 use Rattle.side.proofs.Songs.{side-tiled}
@@ -21,6 +19,8 @@ use Rattle.side.proofs.Listed.{listed-before, sound-before}
 use Rattle.side.proofs.Demands.{grows, own-listed, told-listed}
 use Rattle.side.proofs.Ready.{NoneListed, none_first, Ready, first-written, first-grown, next-ready}
 use Rattle.reader.specs.Content.{titles_in, file_format, file_frames}
+use Rattle.writer.specs.File.{Written}
+use Rattle.std.specs.Prelude.{Err, Ok}
 
 -- ---- the first of a list, by its answer
 first-answered : (s : List ℕ) (x : Sent) (xs : List Sent) {a : Written} → answer_to s x ≡ a
@@ -33,16 +33,16 @@ listed-stays : (s : List ℕ) (x : Sent) (xs : List Sent) → is_listed x.number
 listed-stays s x xs e = by (answer_to s x) refl
   where
     by : (a : Written) → answer_to s x ≡ a → add_all s (x ∷ xs) ≡ add_all s xs
-    by (Bytes n) h = absurd (subst T (sym e ∙ (added-says s x n h).0.fresh) tt)
-    by (Refused r) h = first-answered s x xs h
+    by (Ok n) h = absurd (subst T (sym e ∙ (added-says s x n h).0.fresh) tt)
+    by (Err r) h = first-answered s x xs h
 
 pub sent-twice : SentTwice
 unfolding SentTwice Grows
 sent-twice s x xs b y = by (answer_to s x) refl
   where
     by : (a : Written) → answer_to s x ≡ a → add_all s (x ∷ x ∷ xs) ≡ add_all s (x ∷ xs)
-    by (Refused r) e = first-answered s x (x ∷ xs) e
-    by (Bytes n) e =
+    by (Err r) e = first-answered s x (x ∷ xs) e
+    by (Ok n) e =
         first-answered s x (x ∷ xs) e
         ∙ listed-stays (file_with s x) x xs
         (own-listed (grows s x n (record { bytes = b; sent = y; answer = e })) (added-says s x n e).0.fresh)
@@ -57,7 +57,7 @@ none-lost (x ∷ xs) s b e y = by (answer_to s x) refl (λ t c f. none-lost xs t
     by : (a : Written) → answer_to s x ≡ a
         → ((t : List ℕ) → T (are_bytes t) → is_side_file t ≡ true → Keeps t (add_all t xs))
         → Keeps s (add_all (side_after a s (file_with s x)) xs)
-    by (Bytes n) h next =
+    by (Ok n) h next =
         let g : Grown s x n = grows s x n (record { bytes = b; sent = y.0; answer = h }) in
         let k = next (file_with s x) g.bytes g.side in
         let one : List Song = song_from (file_frames s) x ∷ [] in
@@ -68,7 +68,7 @@ none-lost (x ∷ xs) s b e y = by (answer_to s x) refl (λ t c f. none-lost xs t
           songs = k.songs ∙ ap (λ (ys : List Song). ys ++ k.more) g.songs ∙ append_assoc (songs_in s) one k.more;
           titles = k.titles ∙ g.titles;
         }
-    by (Refused r) h next = next s b e
+    by (Err r) h next = next s b e
 
 -- a number that was listed is so still, with the same sound
 module _ {s t : List ℕ} (k : Keeps s t) (number : Donation) (i : is_listed number (songs_in s) ≡ true) where

@@ -10,7 +10,6 @@ use lib.ListN.{length, take}
 use lib.Pow.{are_bytes}
 use borrow.Author.Tests.{eqb-true, le-leb}
 use Rattle.lists.proofs.Laws.{and_both}
-use Rattle.units.specs.declared.Verdict.TheVariants.{Accepted}
 use Rattle.riff.proofs.Parting.{part_bytes_lem}
 use Rattle.formats.specs.declared.Format.{Format}
 use Rattle.tables.proofs.Entries.{cues-whole, plays-whole}
@@ -22,7 +21,7 @@ use Rattle.titles.specs.Titles.{Entry, entries_of, entries_rule}
 use Rattle.titles.specs.Writing.{list_bytes}
 use Rattle.titles.proofs.Round.{list-even, no_names}
 use Rattle.rules.specs.declared.Record.{Record}
-use Rattle.rules.specs.Rules.{record_of}
+use Rattle.rules.specs.Rules.{record_of, record_in, reading_verdict}
 use Rattle.reader.specs.Content.{Content, holds, cue_part, playlist_part, content_of, reading_of, sound_of, reading, sound_in, titles_in, texts_in, file_format, file_frames}
 use Rattle.reader.specs.Demands.{TitlesTold}
 use Rattle.reader.proofs.Titles.{titles-told, read-rule, titles-count}
@@ -34,12 +33,13 @@ use Rattle.side.specs.Demands.{titles_size}
 use Rattle.side.proofs.Sixteen.{sixteen-align, sixteen-long}
 use Rattle.side.proofs.Songs.{side-sixteen, side-says}
 use Rattle.side.proofs.Growing.{Standing, songs-count}
+use Rattle.std.specs.Prelude.{Ok}
 
 -- ---- a file that holds a record and a sound
 module _ (s : List ℕ) {m : Record} {w : List ℕ} (c : content_of s ≡ holds m w) where
-  pub held-made : (reading s).made ≡ m
+  pub held-made : record_in (reading s) ≡ m
   unfolding reading
-  held-made = ap (λ (x : Content). (reading_of x).made) c
+  held-made = ap (λ (x : Content). record_in (reading_of x)) c
 
   pub held-sound : sound_in s ≡ w
   unfolding sound_in
@@ -60,13 +60,13 @@ sound-bytes s c t =
 
 -- ---- a side file
 module _ (s : List ℕ) (e : is_side_file s ≡ true) where
-  side-parts : ((reading s).verdict ≡ Accepted) × (is_side (reading s).made ≡ true)
+  side-parts : (reading_verdict (reading s) ≡ Ok tt) × (is_side (record_in (reading s)) ≡ true)
   side-parts = side-says (reading s) e
 
-  pub side-held : holds (reading s).made (sound_in s) ≡ content_of s
+  pub side-held : holds (record_in (reading s)) (sound_in s) ≡ content_of s
   side-held = content-taken s refl side-parts.0 refl
 
-  pub standing : Standing (reading s).made (sound_in s)
+  pub standing : Standing (record_in (reading s)) (sound_in s)
   unfolding record_of
   standing =
       let h = held s side-held in
@@ -78,8 +78,8 @@ module _ (s : List ℕ) (e : is_side_file s ≡ true) where
       }
 
   -- a song that suits it is whole frames of the same size
-  module _ (t : List ℕ) (a : (reading t).verdict ≡ Accepted) (f : suits (file_format s) (file_format t) ≡ true) where
-    song-held : holds (reading t).made (sound_in t) ≡ content_of t
+  module _ (t : List ℕ) (a : reading_verdict (reading t) ≡ Ok tt) (f : suits (file_format s) (file_format t) ≡ true) where
+    song-held : holds (record_in (reading t)) (sound_in t) ≡ content_of t
     song-held = content-taken t refl a refl
 
     suited-says : (sixteen_bit (file_format t) ≡ true) × ((file_format t).channels ≡ (file_format s).channels)
@@ -96,17 +96,17 @@ module _ (s : List ℕ) (e : is_side_file s ≡ true) where
         let k = content-rules t song-held in
         let p = suited-says in
         let x : (file_format t).align ≡ (file_format s).align =
-        sixteen-align k p.0 ∙ ap (λ (n : ℕ). 2 * n) p.1 ∙ sym (sixteen-align standing.rules (side-sixteen (reading s).made side-parts.1)) in
+        sixteen-align k p.0 ∙ ap (λ (n : ℕ). 2 * n) p.1 ∙ sym (sixteen-align standing.rules (side-sixteen (record_in (reading s)) side-parts.1)) in
         sixteen-long k p.0 ∙ ap (λ (n : ℕ). n * file_frames t) x
 
 -- ---- the titles of a file: the bytes that they take, and that a side without songs has none
-pub titles-extent : (s : List ℕ) → extent_if (titles_chunk (texts_in s) (reading s).made.titles) ≡ titles_size (titles_in s)
+pub titles-extent : (s : List ℕ) → extent_if (titles_chunk (texts_in s) (record_in (reading s)).titles) ≡ titles_size (titles_in s)
 unfolding extent_if TitlesTold
 titles-extent s =
     (λ i. cond (leb 1 (titles-count s i)) (extent (length (list_bytes (told i)))) 0) ∙ by (titles_in s)
   where
-    told : entries_of (texts_in s) (reading s).made.titles ≡ titles_in s
-    told = ap (λ (b : List ℕ). entries_of b (reading s).made.titles) (sym (append-nil (texts_in s))) ∙ titles-told s []
+    told : entries_of (texts_in s) (record_in (reading s)).titles ≡ titles_in s
+    told = ap (λ (b : List ℕ). entries_of b (record_in (reading s)).titles) (sym (append-nil (texts_in s))) ∙ titles-told s []
 
     by : (es : List Entry) → cond (leb 1 (length es)) (extent (length (list_bytes es))) 0 ≡ titles_size es
     by [] = refl
@@ -116,7 +116,7 @@ titles-extent s =
 
 pub no-titles : (s : List ℕ) → is_side_file s ≡ true → songs_in s ≡ [] → titles_in s ≡ []
 no-titles s e n =
-    let c : Cues = (reading s).made.cues in
+    let c : Cues = (record_in (reading s)).cues in
     let z : c.count ≡ 0 = sym (songs-count (standing s e)) ∙ ap length n in
     let names : names_in c ≡ [] = names-first c (omega arith) ∙ ap (λ (i : ℕ). map name_of (take i c.list)) z in
     no_names (titles_in s) (sym (ap (λ (x : List ℕ). entries_rule x (titles_in s)) names) ∙ read-rule s)

@@ -13,8 +13,6 @@ use Rattle.lists.specs.Among.{index_in, has}
 use Rattle.lists.proofs.Laws.{and_both}
 use Rattle.units.specs.declared.Donation.{Donation}
 use Rattle.units.specs.declared.Frames.{Frames}
-use Rattle.units.specs.declared.Verdict.{Verdict}
-use Rattle.units.specs.declared.Verdict.TheVariants.{Accepted, Refused}
 use Rattle.formats.specs.declared.Format.{Format}
 use Rattle.tables.specs.declared.Cue.{Cue}
 use Rattle.tables.specs.declared.Cues.{Cues}
@@ -22,10 +20,12 @@ use Rattle.tables.specs.declared.Play.{Play}
 use Rattle.tables.specs.declared.Playlist.{Playlist}
 use Rattle.tables.specs.Cues.{name_of}
 use Rattle.rules.specs.declared.Record.{Record}
-use Rattle.rules.specs.declared.Reading.{Reading}
 use Rattle.side.specs.Side.{Song, sixteen_bit, cue_list, play_list, tiled, is_side, side_by, side_read, frames_at, song_of, songs_of, is_listed}
 use Rattle.lists.proofs.Behind.{has_first}
 use Rattle.side.proofs.Sixteen.{sixteen-says}
+use Rattle.units.specs.Refusals.{Verdict}
+use Rattle.std.specs.Prelude.{Err, Ok}
+use Rattle.rules.specs.Rules.{record_in, reading_verdict, Reading}
 
 -- an entry plays a cue once
 pub record Once (c : Cue) (p : Play) : Type 0 where
@@ -165,10 +165,10 @@ counts-agree c p f h k cue_room play_room e =
     ∙ length-take-le p.count p.list (omega arith)
 
 -- a file that was read and is a side is taken, and has the record of one
-pub side-says : (x : Reading) → side_read x ≡ true → (x.verdict ≡ Accepted) × (is_side x.made ≡ true)
+pub side-says : (x : Reading) → side_read x ≡ true → (reading_verdict x ≡ Ok tt) × (is_side (record_in x) ≡ true)
 unfolding side_read
-side-says x = by x.verdict
+side-says x = by (reading_verdict x)
   where
-    by : (v : Verdict) → side_by v x.made ≡ true → (v ≡ Accepted) × (is_side x.made ≡ true)
-    by Accepted h = (refl, h)
-    by (Refused r) h = absurd (subst T (sym h) tt)
+    by : (v : Verdict) → side_by v (record_in x) ≡ true → (v ≡ Ok tt) × (is_side (record_in x) ≡ true)
+    by (Ok _) h = (refl, h)
+    by (Err r) h = absurd (subst T (sym h) tt)

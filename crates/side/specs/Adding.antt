@@ -1,12 +1,10 @@
 -- Adding a song to a side: the verdict, the file, and the answer. Assumes nothing.
-use Rattle.std.specs.Prelude.{ℕ, ◌+◌, ◌≤◌, ◌≡◌, Bool, true, not, cond, ◌&&◌, List, [], ◌∷◌, ◌++◌, eqb, ltb, leb, length}
+use Rattle.std.specs.Prelude.{ℕ, ◌+◌, ◌≤◌, ◌≡◌, Bool, true, not, cond, ◌&&◌, List, [], ◌∷◌, ◌++◌, eqb, ltb, leb, length, Err, Ok}
 use Rattle.little.specs.Same.{same_bytes}
 use Rattle.units.specs.declared.Donation.{Donation}
 use Rattle.units.specs.declared.Frames.{Frames}
 use Rattle.units.specs.declared.Refusal.TheVariants.{FormatWrong, SongEmptyOrDifferent, NoPlaceOnSide, AlreadyListed, NotASide}
-use Rattle.units.specs.declared.Verdict.{Verdict}
-use Rattle.units.specs.declared.Verdict.TheVariants as verdict
-use Rattle.units.specs.Refusals.{file_limit}
+use Rattle.units.specs.Refusals.{file_limit, Verdict}
 use Rattle.units.specs.Checks.{Check, check, decided, and_then}
 use Rattle.formats.specs.declared.Format.{Format}
 use Rattle.formats.specs.Format.{plain_format}
@@ -14,12 +12,9 @@ use Rattle.tables.specs.More.{cues_with, plays_with}
 use Rattle.titles.specs.Titles.{entries_of, texts_of}
 use Rattle.titles.specs.Lists.{entries_in, list_form, titles_of}
 use Rattle.rules.specs.declared.Record.{Record}
-use Rattle.rules.specs.Rules.{bare}
-use Rattle.rules.specs.declared.Reading.{Reading}
+use Rattle.rules.specs.Rules.{bare, record_in, reading_verdict, Reading}
 use Rattle.reader.specs.Content.{reading, sound_in, texts_in}
-use Rattle.writer.specs.declared.Written.{Written}
-use Rattle.writer.specs.declared.Written.TheVariants.{Refused}
-use Rattle.writer.specs.File.{file_of, right_titles, writing}
+use Rattle.writer.specs.File.{file_of, right_titles, writing, Written}
 use Rattle.side.specs.Side.{sixteen_bit, side_read, songs_held, is_listed, listed_sound}
 
 -- ---- the verdict
@@ -30,7 +25,7 @@ suits side song = sixteen_bit song && eqb song.channels side.channels && eqb son
 
 -- a listed number, by the first two of the checks below: 18 for the same sound, else 16
 unfoldable pub once_more : List ℕ → List ℕ → Verdict
-once_more listed sound = verdict.Refused (cond (same_bytes listed sound) AlreadyListed SongEmptyOrDifferent)
+once_more listed sound = Err (cond (same_bytes listed sound) AlreadyListed SongEmptyOrDifferent)
 
 -- there are fewer than 64 songs, and F + frames is not above the limit
 unfoldable pub has_place : Record → Frames → Frames → Bool
@@ -48,13 +43,13 @@ place_checks m w frames v number limit =
 abbrev pub add_checks : Reading → List ℕ → Reading → List ℕ → Donation → Frames → List Check
 add_checks side w song v number limit =
     check (side_read side) NotASide
-    ∷ check (suits side.made.format song.made.format) FormatWrong
-    ∷ check (leb 1 song.made.frames.0) SongEmptyOrDifferent
-    ∷ place_checks side.made w song.made.frames v number limit
+    ∷ check (suits (record_in side).format (record_in song).format) FormatWrong
+    ∷ check (leb 1 (record_in song).frames.0) SongEmptyOrDifferent
+    ∷ place_checks (record_in side) w (record_in song).frames v number limit
 
 -- the song file's refusals 1 to 13 and 21, then those
 unfoldable pub add_verdict : Reading → List ℕ → Reading → List ℕ → Donation → Frames → Verdict
-add_verdict side w song v number limit = and_then song.verdict (decided (add_checks side w song v number limit))
+add_verdict side w song v number limit = and_then (reading_verdict song) (decided (add_checks side w song v number limit))
 
 -- ---- the file
 
@@ -79,7 +74,7 @@ pub record WithList (m : Record) (l : List ℕ) (lost : Bool) : Type 0 where
 
 -- of a side file s and a song file t
 abbrev pub new_record : List ℕ → List ℕ → Donation → Record
-new_record s t number = with_song (reading s).made number (reading t).made.frames
+new_record s t number = with_song (record_in (reading s)) number (record_in (reading t)).frames
 
 -- the sound goes behind the last song; the texts are the side's own
 abbrev pub new_sound : List ℕ → List ℕ → List ℕ
@@ -96,8 +91,8 @@ add_judged s t number limit = add_verdict (reading s) (sound_in s) (reading t) (
 
 -- the verdict's refusal, or else writing's answer
 abbrev pub added_by : Verdict → Written → Written
-added_by verdict.Accepted x = x
-added_by (verdict.Refused r) x = Refused r
+added_by (Ok _) x = x
+added_by (Err r) x = Err r
 
 -- the file is written by the rules of writing: 1 if it would be above the limit; 14
 unfoldable pub adding : List ℕ → List ℕ → Donation → Frames → ℕ → Written

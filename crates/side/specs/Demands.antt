@@ -1,24 +1,22 @@
 -- Demand 2 of sides: adding a listed number again changes nothing and says so; no add moves or drops a song. Of all files of bytes,
 -- numbers, limits and rooms. `Demands`, `Sending`, `EmptySide` and `Rows` of `proofs/` prove them. Assumes nothing.
-use Rattle.std.specs.Prelude.{ℕ, ◌+◌, ◌*◌, ◌≤◌, ◌<◌, ◌≡◌, Bool, true, false, not, cond, ◌&&◌, ◌||◌, List, [], ◌∷◌, ◌++◌, T, eqb, ltb, leb, length}
+use Rattle.std.specs.Prelude.{ℕ, ◌+◌, ◌*◌, ◌≤◌, ◌<◌, ◌≡◌, Bool, true, false, not, cond, ◌&&◌, ◌||◌, List, [], ◌∷◌, ◌++◌, T, eqb, ltb, leb, length, Err, Ok}
 use Rattle.std.proofs.Math.Pow.{are_bytes}
 use Rattle.little.specs.Same.{same_bytes}
 use Rattle.units.specs.declared.BytePlace.{BytePlace}
 use Rattle.units.specs.declared.Donation.{Donation}
 use Rattle.units.specs.declared.Frames.{Frames}
 use Rattle.units.specs.declared.Refusal.TheVariants.{SongEmptyOrDifferent, AlreadyListed}
-use Rattle.units.specs.declared.Verdict.TheVariants as verdict
 use Rattle.units.specs.Refusals.{file_limit}
 use Rattle.units.specs.Checks.{number_or}
 use Rattle.formats.specs.declared.Format.{Format}
 use Rattle.titles.specs.Titles.{Entry}
 use Rattle.titles.specs.Writing.{list_bytes}
 use Rattle.reader.specs.Content.{reading, sound_in, titles_in, file_format, file_frames}
-use Rattle.writer.specs.declared.Written.{Written}
-use Rattle.writer.specs.declared.Written.TheVariants.{Bytes, Refused}
-use Rattle.writer.specs.File.{size_of, file_of, writing, written_number}
+use Rattle.writer.specs.File.{size_of, file_of, writing, written_number, Written}
 use Rattle.side.specs.Side.{Song, bytes_of_frames, is_side_file, songs_in, is_listed, listed_sound}
 use Rattle.side.specs.Adding.{suits, new_file, adding, empty_side}
+use Rattle.rules.specs.Rules.{record_in, reading_verdict}
 
 -- ---- a song as it is sent: its file, the number that it was donated under, the limit of the side's frames, and the room of the
 -- buffer that is lent for it
@@ -48,7 +46,7 @@ song_from at x =
       number = x.number;
       position = record { 0 = at };
       place = record { 0 = at };
-      frames = (reading x.file).made.frames;
+      frames = (record_in (reading x.file)).frames;
       sound = sound_in x.file;
     }
 
@@ -58,7 +56,7 @@ song_from at x =
 pub record Adds (s : List ℕ) (x : Sent) (n : BytePlace) : Type 0 where
   pub bytes : T (are_bytes s)
   pub sent : Bytewise x
-  pub answer : answer_to s x ≡ Bytes n
+  pub answer : answer_to s x ≡ Ok n
 
 -- the file that adding x to a side file s makes, n bytes long: a side of the same format, whose running order is the old one with
 -- one song more at the end; so every old song keeps its number, position, place, frames and its sound, byte for byte. Its titles are
@@ -100,27 +98,27 @@ StaysWithin = (s : List ℕ) (x : Sent) (n : BytePlace) → Adds s x n → Limit
 
 -- the answer to x, whose number a side file s lists with some sound: 18 with the same sound, 16 with other sound
 pub record Listed (sound s : List ℕ) (x : Sent) : Type 0 where
-  pub same : sound_in x.file ≡ sound → answer_to s x ≡ Refused AlreadyListed
-  pub other : (sound_in x.file ≡ sound → ⊥) → answer_to s x ≡ Refused SongEmptyOrDifferent
+  pub same : sound_in x.file ≡ sound → answer_to s x ≡ Err AlreadyListed
+  pub other : (sound_in x.file ≡ sound → ⊥) → answer_to s x ≡ Err SongEmptyOrDifferent
 
 unfoldable pub OnceListed : Type 0
 OnceListed =
     (s : List ℕ) (x : Sent) → is_side_file s ≡ true → is_listed x.number (songs_in s) ≡ true
-    → (reading x.file).verdict ≡ verdict.Accepted → suits (file_format s) (file_format x.file) ≡ true
+    → reading_verdict (reading x.file) ≡ Ok tt → suits (file_format s) (file_format x.file) ≡ true
     → Listed (listed_sound x.number (songs_in s)) s x
 
 -- so it is of the file that adding x made, for every song y that is sent under the same number next
 unfoldable pub AddedAgain : Type 0
 AddedAgain =
     (s : List ℕ) (x y : Sent) (n : BytePlace) → Adds s x n → y.number ≡ x.number
-    → (reading y.file).verdict ≡ verdict.Accepted → suits (file_format s) (file_format y.file) ≡ true
+    → reading_verdict (reading y.file) ≡ Ok tt → suits (file_format s) (file_format y.file) ≡ true
     → Listed (sound_in x.file) (file_with s x) y
 
 -- ---- songs sent one after the other, each added to the file that the one before made; where it is refused, that file stays
 
 abbrev pub side_after : Written → List ℕ → List ℕ → List ℕ
-side_after (Bytes n) old new = new
-side_after (Refused r) old new = old
+side_after (Ok n) old new = new
+side_after (Err r) old new = old
 
 unfoldable pub add_all : List ℕ → List Sent → List ℕ
 add_all s [] = s
@@ -134,7 +132,7 @@ in_row at (x ∷ xs) = song_from at x ∷ in_row (at + file_frames x.file) xs
 -- a song that a side of some format can take: its file is taken, it suits the side, and it has frames
 pub record Suitable (f : Format) (x : Sent) : Type 0 where
   pub bytewise : Bytewise x
-  pub taken : (reading x.file).verdict ≡ verdict.Accepted
+  pub taken : reading_verdict (reading x.file) ≡ Ok tt
   pub suited : suits f (file_format x.file) ≡ true
   pub frames : 1 ≤ file_frames x.file
 
@@ -197,7 +195,7 @@ NoneLost = (xs : List Sent) (s : List ℕ) → T (are_bytes s) → is_side_file 
 unfoldable pub StillListed : Type 0
 StillListed =
     (s : List ℕ) (xs : List Sent) (y : Sent) → T (are_bytes s) → is_side_file s ≡ true → is_listed y.number (songs_in s) ≡ true
-    → AllBytewise xs → (reading y.file).verdict ≡ verdict.Accepted → suits (file_format s) (file_format y.file) ≡ true
+    → AllBytewise xs → reading_verdict (reading y.file) ≡ Ok tt → suits (file_format s) (file_format y.file) ≡ true
     → Listed (listed_sound y.number (songs_in s)) (add_all s xs) y
 
 -- and it changes nothing, whatever its file
@@ -220,7 +218,7 @@ pub record IsEmptySide (s : List ℕ) (channels rate : ℕ) : Type 0 where
 
 unfoldable pub EmptyMade : Type 0
 EmptyMade =
-    (channels rate room : ℕ) (n : BytePlace) → writing (empty_side channels rate) [] [] room ≡ Bytes n
+    (channels rate room : ℕ) (n : BytePlace) → writing (empty_side channels rate) [] [] room ≡ Ok n
     → IsEmptySide (file_of (empty_side channels rate) [] []) channels rate
 
 -- and it is written: 9 but for 1 or 2 channels and a rate of 1 to 192,000, then 14 without room for its 44 bytes
@@ -235,7 +233,7 @@ EmptyNumbered =
 -- ---- the number of an answer, in the order of checks and the numbers of document 01; 0 where the song is added
 abbrev pub add_number : List ℕ → List ℕ → Donation → Frames → ℕ → ℕ
 add_number s t number limit room =
-    number_or (reading t).verdict
+    number_or (reading_verdict (reading t))
     (cond (not (is_side_file s)) 19
     (cond (not (suits (file_format s) (file_format t))) 9
     (cond (eqb (file_frames t) 0) 16

@@ -1,13 +1,11 @@
 -- What adding and an empty side promise: one answer, with its number and its value in document 01's terms, and one content of the lent
 -- buffer. Assumes nothing.
-use Rattle.std.specs.Prelude.{ℕ, ◌≡◌, List, [], length}
+use Rattle.std.specs.Prelude.{ℕ, ◌≡◌, List, [], length, Ok}
 use Rattle.little.specs.Writing.{holding}
 use Rattle.units.specs.declared.BytePlace.{BytePlace}
 use Rattle.units.specs.declared.Donation.{Donation}
 use Rattle.units.specs.declared.Frames.{Frames}
-use Rattle.writer.specs.declared.Written.{Written}
-use Rattle.writer.specs.declared.Written.TheVariants.{Bytes}
-use Rattle.writer.specs.File.{file_of, writing, written_verdict, written_number}
+use Rattle.writer.specs.File.{file_of, writing, written_verdict, written_number, Written}
 use Rattle.side.specs.Adding.{new_file, adding, empty_side}
 use Rattle.side.specs.Demands.{empty_number, add_number}
 
@@ -15,7 +13,7 @@ use Rattle.side.specs.Demands.{empty_number, add_number}
 pub record AddPromise (s t : List ℕ) (number : Donation) (limit : Frames) (d : List ℕ) (r : Written) (e : List ℕ) : Type 0 where
   pub answer : r ≡ adding s t number limit (length d)
   pub refusal : written_number r ≡ add_number s t number limit (length d)
-  pub size : (n : BytePlace) → r ≡ Bytes n → n.0 ≡ length (new_file s t number)
+  pub size : (n : BytePlace) → r ≡ Ok n → n.0 ≡ length (new_file s t number)
   pub buffer : e ≡ holding (written_verdict r) (new_file s t number) d
 
 unfoldable pub OneAdding : Type 0
@@ -27,7 +25,7 @@ OneAdding =
 pub record EmptyPromise (channels rate : ℕ) (d : List ℕ) (r : Written) (e : List ℕ) : Type 0 where
   pub answer : r ≡ writing (empty_side channels rate) [] [] (length d)
   pub number : written_number r ≡ empty_number channels rate (length d)
-  pub size : (n : BytePlace) → r ≡ Bytes n → n.0 ≡ length (file_of (empty_side channels rate) [] [])
+  pub size : (n : BytePlace) → r ≡ Ok n → n.0 ≡ length (file_of (empty_side channels rate) [] [])
   pub buffer : e ≡ holding (written_verdict r) (file_of (empty_side channels rate) [] []) d
 
 unfoldable pub OneEmpty : Type 0

@@ -1,17 +1,16 @@
 -- What a side is, and its songs in their running order. Assumes nothing.
-use Rattle.std.specs.Prelude.{ℕ, ◌+◌, ◌*◌, Bool, false, cond, ◌&&◌, ◌||◌, List, [], ◌∷◌, eqb, take, drop, get_or}
+use Rattle.std.specs.Prelude.{ℕ, ◌+◌, ◌*◌, Bool, false, cond, ◌&&◌, ◌||◌, List, [], ◌∷◌, eqb, take, drop, get_or, Err, Ok}
 use Rattle.units.specs.declared.Donation.{Donation}
 use Rattle.units.specs.declared.Frames.{Frames}
-use Rattle.units.specs.declared.Verdict.{Verdict}
-use Rattle.units.specs.declared.Verdict.TheVariants.{Accepted, Refused}
 use Rattle.formats.specs.declared.Format.{Format}
 use Rattle.tables.specs.declared.Cue.{Cue}
 use Rattle.tables.specs.declared.Play.{Play}
 use Rattle.tables.specs.Cues.{no_cue}
 use Rattle.tables.specs.Plays.{no_play}
 use Rattle.rules.specs.declared.Record.{Record}
-use Rattle.rules.specs.declared.Reading.{Reading}
 use Rattle.reader.specs.Content.{reading, sound_in}
+use Rattle.units.specs.Refusals.{Verdict}
+use Rattle.rules.specs.Rules.{record_in, reading_verdict, Reading}
 
 -- ---- a side
 
@@ -40,11 +39,11 @@ is_side m = sixteen_bit m.format && tiled (cue_list m) (play_list m) 0 m.frames.
 
 -- the answer of reading a side file: it is taken, and it is a side
 abbrev pub side_by : Verdict → Record → Bool
-side_by Accepted m = is_side m
-side_by (Refused r) m = false
+side_by (Ok _) m = is_side m
+side_by (Err r) m = false
 
 unfoldable pub side_read : Reading → Bool
-side_read r = side_by r.verdict r.made
+side_read r = side_by (reading_verdict r) (record_in r)
 
 -- ---- its songs
 
@@ -105,4 +104,4 @@ abbrev pub is_side_file : List ℕ → Bool
 is_side_file s = side_read (reading s)
 
 abbrev pub songs_in : List ℕ → List Song
-songs_in s = songs_held (reading s).made (sound_in s)
+songs_in s = songs_held (record_in (reading s)) (sound_in s)

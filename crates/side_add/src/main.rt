@@ -7,11 +7,10 @@
 // to be read again; a new side longer than that is `refused 14`. All is held on the stack, 0.9 MB.
 #![tactic(auto)]
 
-use files::{Input, Said};
 use std::io;
 use std::rt::Runtime;
 use units::BytePlace;
-use wave::{Donation, Frames, Written};
+use wave::{Donation, Frames};
 
 // How it is called.
 const USAGE: &str = "side_add SIDE SONG NUMBER LIMIT OUT";
@@ -21,8 +20,7 @@ fn keep(rt: &impl Runtime, number: Donation, file: &[u8]) -> io::Result<()> {
     if !files::write(rt, "side_add", 5, file)? {
         return Ok(());
     }
-    show::field(rt, b"added ", number.0 as u64)?;
-    show::line(rt)?;
+    println!(rt; "added {}", number.0)?;
     files::size(rt, file)
 }
 
@@ -36,15 +34,15 @@ fn add(
 ) -> io::Result<()> {
     let mut out = files::file_room();
     match wave::add(side, song, number, limit, &mut out) {
-        Written::Bytes(size) => keep(rt, number, little::bytes_from(&out, BytePlace(0), size)),
-        Written::Refused(refusal) => listing::refused(rt, refusal),
+        Ok(size) => keep(rt, number, little::bytes_from(&out, BytePlace(0), size)),
+        Err(refusal) => listing::refused(rt, refusal),
     }
 }
 
 // Reads the song, and adds it to a side that was read.
 fn add_to(rt: &impl Runtime, side: &[u8], number: Donation, limit: Frames) -> io::Result<()> {
     let mut buffer = files::file_room();
-    let Input::Bytes(n) = files::read(rt, "side_add", 2, &mut buffer)? else {
+    let Some(n) = files::read(rt, "side_add", 2, &mut buffer)? else {
         return Ok(());
     };
     if files::too_long(rt, side.len())? {
@@ -65,7 +63,7 @@ fn add_to(rt: &impl Runtime, side: &[u8], number: Donation, limit: Frames) -> io
 // Reads the side.
 fn start(rt: &impl Runtime, number: Donation, limit: Frames) -> io::Result<()> {
     let mut buffer = files::file_room();
-    let Input::Bytes(n) = files::read(rt, "side_add", 1, &mut buffer)? else {
+    let Some(n) = files::read(rt, "side_add", 1, &mut buffer)? else {
         return Ok(());
     };
     add_to(
@@ -80,10 +78,10 @@ fn main(rt: HostRuntime) -> io::Result<()> {
     if !files::called(&rt, 6, USAGE)? {
         return Ok(());
     }
-    let Said::Number(number) = files::number(&rt, 3, 4294967295, USAGE)? else {
+    let Some(number) = files::number(&rt, 3, 4294967295, USAGE)? else {
         return Ok(());
     };
-    let Said::Number(limit) = files::number(&rt, 4, 4294967295, USAGE)? else {
+    let Some(limit) = files::number(&rt, 4, 4294967295, USAGE)? else {
         return Ok(());
     };
     start(&rt, Donation(number), Frames(limit))

@@ -5,17 +5,15 @@
 // the samples are turned all in one go.
 #![tactic(auto)]
 
-ghost use Rattle.std.specs.Prelude.{◌≡◌, true, false, ◌+◌, ◌*◌, ◌≤◌, ◌<◌, min, length};
+ghost use Rattle.std.specs.Prelude.{◌≡◌, true, false, ◌+◌, ◌*◌, ◌≤◌, ◌<◌, length};
 ghost use Rattle.little.specs.Writing.{Put, front};
-ghost use Rattle.ima_code.specs.Code.{IsSteps};
-ghost use Rattle.ms_code.specs.Nibble.{IsFactors};
 ghost use Rattle.formats.specs.Format.{format_rule};
 ghost use Rattle.formats.specs.Frames.{needs_fact, Sounding};
 ghost use Rattle.sound_data.specs.Sound.{block_frames, block_valid, block_count, block_at, whole_sound, data_valid};
 
 use formats::{Format, IMA, PCM};
-use ima_code::{STEPS, Steps};
-use ms_code::{FACTORS, Factors};
+use ima_block::Ima;
+use ms_block::Microsoft;
 use units::Frames;
 
 // How many blocks the data are.
@@ -49,9 +47,9 @@ pub fn block_valid(format: Format, block: &[u8]) -> bool
     }
     let channels = format.channels as usize;
     if format.tag == IMA {
-        return ima_block::headers_valid(block, channels);
+        return codec::headers_valid::<Ima>(block, channels);
     }
-    ms_block::headers_valid(block, channels)
+    codec::headers_valid::<Microsoft>(block, channels)
 }
 
 // Whether the headers of all blocks are valid: a pass over the headers alone.
@@ -60,13 +58,10 @@ fn headers_valid(format: Format, bytes: &[u8]) -> bool
     ensures answer { result ≡ data_valid format bytes.now }
 {
     let n = block_count(format, bytes);
-    let mut k = 0;
-    while k < n {
-        let valid = block_valid(format, block_at(format, bytes, k));
-        if !valid {
+    for k in 0..n {
+        if !block_valid(format, block_at(format, bytes, k)) {
             return false;
         }
-        k += 1;
     }
     true
 }
@@ -82,39 +77,19 @@ pub fn data_valid(format: Format, bytes: &[u8]) -> bool
     headers_valid(format, bytes)
 }
 
-// Puts the first frames of an ADPCM block at a place. The tables of IMA steps and Microsoft factors are
-// lent, so that they are copied once for all blocks.
-fn put_block(
-    format: Format,
-    frames: usize,
-    block: &[u8],
-    sizes: &Steps,
-    scales: &Factors,
-    out: &mut [i16],
-    at: usize,
-)
+// Puts the first frames of an ADPCM block at a place.
+fn put_block(format: Format, frames: usize, block: &[u8], out: &mut [i16], at: usize)
     requires { (format_rule format ≡ true) × (needs_fact format ≡ true) × (length block.now ≡ format.align)
         × (block_valid format block.now ≡ true) × (1 ≤ frames) × (frames ≤ format.samples)
-        × IsSteps sizes.now × IsFactors scales.now
         × (at + format.channels * frames ≤ length out.old) }
     ensures buffer { Put out.old at (block_frames format frames block.now) out.new }
 {
     let channels = format.channels as usize;
     if format.tag == IMA {
-        ima_block::decode(block, channels, frames, sizes, out, at);
-        return;
+        codec::decode::<Ima>(block, channels, frames, out, at);
+    } else {
+        codec::decode::<Microsoft>(block, channels, frames, out, at);
     }
-    ms_block::decode(block, channels, frames, scales, out, at);
-}
-
-// The smaller of two numbers.
-fn smaller(a: usize, b: usize) -> usize
-    ensures answer { result ≡ min a b }
-{
-    if a < b {
-        return a;
-    }
-    b
 }
 
 // Puts the frames of ADPCM data into a lent buffer, block after block; the last block may have fill, which
@@ -124,21 +99,17 @@ fn put_blocks(format: Format, frames: Frames, bytes: &[u8], out: &mut [i16])
         × (frames.0 * format.channels ≤ length out.old) }
     ensures buffer { out.new ≡ front (whole_sound format frames.0 bytes.now) out.old }
 {
-    let sizes = STEPS;
-    let scales = FACTORS;
     let channels = format.channels as usize;
     let samples = format.samples as usize;
     let blocks = block_count(format, bytes);
     let mut left = frames.0 as usize;
     let mut to = 0;
-    let mut i = 0;
-    while i < blocks {
-        let n = smaller(left, samples);
+    for i in 0..blocks {
+        let n = left.min(samples);
         let block = block_at(format, bytes, i);
-        put_block(format, n, block, &sizes, &scales, out, to);
+        put_block(format, n, block, out, to);
         left -= n;
         to += channels * n;
-        i += 1;
     }
 }
 
@@ -148,11 +119,12 @@ fn put_pcm(format: Format, frames: Frames, bytes: &[u8], out: &mut [i16])
         × (frames.0 * format.channels ≤ length out.old) }
     ensures buffer { out.new ≡ front (whole_sound format frames.0 bytes.now) out.old }
 {
-    if format.bits == 8 {
+    let eight = format.bits == 8;
+    if eight {
         samples::from_pcm8(bytes, out);
-        return;
+    } else {
+        samples::from_pcm16(bytes, out);
     }
-    samples::from_pcm16(bytes, out);
 }
 
 // Puts the frames of data into a lent buffer, from its start.
@@ -163,9 +135,9 @@ pub fn put_sound(format: Format, frames: Frames, bytes: &[u8], out: &mut [i16])
 {
     if format.tag == PCM {
         put_pcm(format, frames, bytes, out);
-        return;
+    } else {
+        put_blocks(format, frames, bytes, out);
     }
-    put_blocks(format, frames, bytes, out);
 }
 
 // Puts a whole ADPCM block into a lent buffer, from its start and with its fill.
@@ -174,8 +146,5 @@ pub fn put_one_block(format: Format, block: &[u8], out: &mut [i16])
         × (block_valid format block.now ≡ true) × (format.samples * format.channels ≤ length out.old) }
     ensures buffer { out.new ≡ front (block_frames format format.samples block.now) out.old }
 {
-    let sizes = STEPS;
-    let scales = FACTORS;
-    let samples = format.samples as usize;
-    put_block(format, samples, block, &sizes, &scales, out, 0);
+    put_block(format, format.samples as usize, block, out, 0);
 }

@@ -2,10 +2,13 @@
 use mathlib.Core.Path.{◌≡◌, refl, sym, ap, ◌∙◌}
 use mathlib.Core.List.{List, ◌∷◌, ◌++◌}
 use Prim.Native.Nat.{ℕ, zero, suc, ◌+◌, ◌-◌, ◌*◌, ◌≤◌, ◌<◌}
-use native.Mathlib.Nat.{add-zero}
+use native.Mathlib.Nat.{add-zero, zero-add}
 use native.Mathlib.Omega.{arith}
-use lib.ListN.{length, take, drop, get_or, set, replicate}
-use lib.Seq.{length-take-le, drop-append-add, get_or-take, set_at, take-suc, append_snoc}
+use lib.ListN.{length, take, drop, get_or, set, replicate, length-append, length-replicate, get_or-append}
+use Rattle.std.proofs.lemmas.List.{drop-replicate}
+use Rattle.lists.specs.Turns.{values}
+use Rattle.lists.proofs.Turns.{values-long, values-at}
+use lib.Seq.{length-take-le, take_at, drop-append-add, get_or-take, set_at, take-suc, append_snoc}
 use Rattle.little.specs.Numbers.{number_at, bytes_of}
 use Rattle.little.proofs.Reading.{bytes-say, number-dropped, number-first}
 use Rattle.codes.specs.Codes.{code_bytes}
@@ -18,7 +21,8 @@ use Rattle.tables.specs.Cues.{no_cue, cue_at, cues_in, cues_of}
 use Rattle.tables.specs.Plays.{no_play, play_at, plays_in, plays_of}
 use Rattle.tables.specs.Bytes.{entry_bytes, table_bytes, zero_past, cue_bytes, cues_bytes, cues_kept, play_bytes, plays_bytes, plays_kept, CuesFit, PlaysFit}
 use Rattle.tables.proofs.Entries.{held-room}
-use Rattle.tables.proofs.Lengths.{entry-from, cue-long, play-long}
+use Rattle.tables.specs.Bytes.{cue-long, play-long}
+use Rattle.tables.proofs.Lengths.{entry-from}
 
 -- ---- the count, and where entry k stands
 module _ {A : Type 0} (bytes : A → List ℕ) (count : ℕ) (list : List A) where
@@ -94,6 +98,43 @@ entries-kept {A} {room} z many entry list more begin h (suc n) l f =
     ∙ ap (λ (x : A). take n list ++ x ∷ rest) (f n (omega arith))
     ∙ sym (append_snoc (take n list) (get_or list n z) rest)
     ∙ ap (λ (xs : List A). xs ++ rest) (sym (take-suc list n z (omega arith)))
+
+-- ---- the same where the first n entries are read into a list that is zero
+read-in : {A : Type 0} (z : A) (many : ℕ → List A) (entry : ℕ → A) → ((k : ℕ) → many (suc k) ≡ set (many k) k (entry k))
+    → many 0 ≡ replicate 64 z → {n : ℕ} {list new : List A} → n ≤ 64 → list ≡ replicate 64 z
+    → new ≡ values entry 0 (length (take n list)) → new ++ drop n list ≡ many n
+read-in {A} z many entry more begin {n} {list} {new} l e f =
+    let rest : List A = replicate (64 - n) z in
+    let m : length (values entry 0 n) ≡ n = values-long entry 0 n in
+    let k : length list ≡ 64 = ap length e ∙ length-replicate 64 z in
+    let g : new ≡ values entry 0 n = f ∙ ap (values entry 0) (length-take-le n list (omega arith)) in
+    (λ i. g i ++ (ap (drop n) e ∙ drop-replicate n 64 z) i)
+    ∙ ap (λ (xs : List A). xs ++ rest) (sym (take_at (values entry 0 n) rest n m))
+    ∙ sym
+    (entries-kept z many entry (values entry 0 n ++ rest) more begin
+    (length-append (values entry 0 n) rest ∙ omega (arith, length-replicate (64 - n) z)) n l
+    (λ k h.
+    sym (get_or-append (values entry 0 n) rest z k (omega arith) ∙ values-at entry 0 n k z h ∙ ap entry (zero-add k))))
+
+module _ (s : List ℕ) {count n : ℕ} (e : count ≡ number_at 4 s 0) (f : n ≡ held count) where
+  few : n ≤ 64
+  few = omega (arith, held-room count)
+
+  pub cues-read : {list new : List Cue} → list ≡ replicate 64 no_cue → new ≡ values (λ k. cue_at s (4 + 24 * k)) 0 (length (take n list))
+      → record { count = count; list = new ++ drop n list } ≡ cues_of s
+  unfolding cues_of cues_in count_in
+  cues-read g h =
+      let l = read-in no_cue (cues_in s) (λ k. cue_at s (4 + 24 * k)) (λ k. refl) refl few g h in
+      λ i. record { count = e i; list = (l ∙ ap (cues_in s) (f ∙ ap held e)) i }
+
+  pub plays-read : {list new : List Play} → list ≡ replicate 64 no_play → new ≡ values (λ k. play_at s (4 + 12 * k)) 0 (length (take n list))
+      → record { count = count; list = new ++ drop n list } ≡ plays_of s
+  unfolding plays_of plays_in count_in
+  plays-read g h =
+      let l = read-in no_play (plays_in s) (λ k. play_at s (4 + 12 * k)) (λ k. refl) refl few g h in
+      λ i. record { count = e i; list = (l ∙ ap (plays_in s) (f ∙ ap held e)) i }
+
+pub ruleset tabling = (cues-read, plays-read)
 
 -- ---- the laws
 pub cues-back : {c : Cues} → CuesFit c → cues_of (cues_bytes c) ≡ cues_kept c

@@ -1,19 +1,17 @@
 -- Laws of reading a table and of taking one number of each entry, in the words of the code. Assumes nothing.
 use mathlib.Core.Path.{◌≡◌, refl, sym, ap, ◌∙◌}
 use mathlib.Core.Bool.{Bool, true, false, cond}
-use mathlib.Core.List.{List, map, ◌++◌, append-nil}
+use mathlib.Core.List.{List, [], ◌∷◌, map, ◌++◌}
+use native.Mathlib.Nat.{add-zero, zero-add}
+use Rattle.lists.specs.Turns.{values}
 use Prim.Native.Nat.{ℕ, zero, suc, ◌+◌, ◌*◌, ◌≤◌, ◌<◌}
 use native.Mathlib.Numerals.{add-one}
 use native.Mathlib.Omega.{arith}
-use lib.ListN.{length, get_or, set, replicate, length-map, length-set, length-replicate, get_or-map, drop_of_length-le}
+use lib.ListN.{length, take, get_or, set, replicate, length-map, length-set, length-replicate, get_or-map}
 use lib.Dec.{leb}
-use lib.Seq.{get_or-set_other}
+use lib.Seq.{get_or-set_other, ext_get_or, take_all, take-suc-set}
 use borrow.Author.Tests.{le-leb, lt-leb, leb-true, leb-false}
 use Rattle.little.specs.Numbers.{number_at}
-use Rattle.little.specs.Writing.{front}
-use Rattle.little.proofs.Filling.{Written, front-begins, front-next, front_ends}
-use Rattle.tables.specs.declared.Cue.{Cue}
-use Rattle.tables.specs.declared.Play.{Play}
 use Rattle.tables.specs.Tables.{count_in, held}
 use Rattle.tables.specs.Cues.{no_cue, cue_at, cues_in, cues_of}
 use Rattle.tables.specs.Plays.{no_play, play_at, plays_in, plays_of}
@@ -46,17 +44,7 @@ module _ (s : List ℕ) (at : ℕ) {x y z : ℕ} (e : x ≡ number_at 4 s at) (f
   unfolding play_at
   play-read g = simp (e, f, g)
 
--- ---- a whole table
-module _ (s : List ℕ) {count n : ℕ} (e : count ≡ number_at 4 s 0) (f : n ≡ held count) where
-  pub cues-read : {list : List Cue} → list ≡ cues_in s n → record { count = count; list = list } ≡ cues_of s
-  unfolding cues_of count_in
-  cues-read g = simp (g, f, e)
-
-  pub plays-read : {list : List Play} → list ≡ plays_in s n → record { count = count; list = list } ≡ plays_of s
-  unfolding plays_of count_in
-  plays-read g = simp (g, f, e)
-
-pub ruleset reading = (held_all, held-most, cue-read, play-read, cues-read, plays-read)
+pub ruleset reading = (cue-read, play-read)
 
 -- ---- the entries one after the other: many k holds the first k; of n entries the first i are read
 pub record Listed {A : Type 0} (many : ℕ → List A) (entry : ℕ → A) (n i : ℕ) (list : List A) : Type 0 where
@@ -64,63 +52,42 @@ pub record Listed {A : Type 0} (many : ℕ → List A) (entry : ℕ → A) (n i 
   pub more : (k : ℕ) → many (suc k) ≡ set (many k) k (entry k)
   pub same : list ≡ many i
 
-module _ {A : Type 0} {many : ℕ → List A} {entry : ℕ → A} {n i : ℕ} {list : List A} (w : Listed many entry n i list) where
-  pub list-next : {x : A} → i < n → x ≡ entry i → Listed many entry n (i + 1) (set list i x)
-  list-next {x} h e =
-      let s = w.same in
-      let m : set list i x ≡ set (many i) i (entry i) = simp (s, e) in
-      record { upto = omega arith; more = w.more; same = m ∙ sym (w.more i) ∙ ap many (sym (add-one i)) }
+-- ---- the entries read into places: of a list the first i are the values of f
+values-more : {A : Type 0} (f : ℕ → A) (i n : ℕ) → values f i (suc n) ≡ values f i n ++ (f (i + n) ∷ [])
+unfolding values
+values-more f i zero = ap (λ (k : ℕ). f k ∷ []) (sym (add-zero i))
+values-more f i (suc n) =
+    let e : suc i + n ≡ i + suc n = omega arith in
+    ap (λ (l : List _). f i ∷ l) (values-more f (suc i) n ∙ ap (λ (k : ℕ). values f (suc i) n ++ (f k ∷ [])) e)
 
-  pub list-ends : n ≤ i → list ≡ many n
-  list-ends h =
-      let e : i ≡ n = omega (arith, w.upto) in
-      w.same ∙ ap many e
+pub record Placed {A : Type 0} (f : ℕ → A) (list : List A) (i : ℕ) : Type 0 where
+  pub upto : i ≤ length list
+  pub same : take i list ≡ values f 0 i
 
-module _ (s : List ℕ) {n : ℕ} where
-  pub cues-begin : {list : List Cue} → list ≡ replicate 64 no_cue → Listed (cues_in s) (λ k. cue_at s (4 + 24 * k)) n 0 list
-  unfolding cues_in
-  cues-begin e = record { upto = omega arith; more = λ k. refl; same = e }
+module _ {A : Type 0} {f : ℕ → A} {list : List A} where
+  pub place-begins : Placed f list 0
+  unfolding values
+  place-begins = record { upto = omega arith; same = refl }
 
-  pub plays-begin : {list : List Play} → list ≡ replicate 64 no_play → Listed (plays_in s) (λ k. play_at s (4 + 12 * k)) n 0 list
-  unfolding plays_in
-  plays-begin e = record { upto = omega arith; more = λ k. refl; same = e }
-
-  pub cues-end : {i : ℕ} {entry : ℕ → Cue} {list : List Cue} → Listed (cues_in s) entry n i list → n ≤ i → list ≡ cues_in s n
-  cues-end w h = list-ends w h
-
-  pub plays-end : {i : ℕ} {entry : ℕ → Play} {list : List Play} → Listed (plays_in s) entry n i list → n ≤ i → list ≡ plays_in s n
-  plays-end w h = list-ends w h
-
-pub ruleset listing = (cues-begin, plays-begin, list-next, cues-end, plays-end)
-
--- ---- one number of each entry, into an array as long as the list; past the list's end z stands
-pub record Mapped {A : Type 0} (f : A → ℕ) (z : A) (list : List A) (i : ℕ) (d : List ℕ) : Type 0 where
-  pub whole : length (map f list) ≡ 64
-  pub written : Written (map f list) 0 i d (replicate 64 0)
-
-module _ {A : Type 0} {f : A → ℕ} {z : A} {list : List A} where
-  pub map-begins : length list ≡ 64 → Mapped f z list 0 (replicate 64 0)
-  map-begins h =
-      let e : length (map f list) ≡ 64 = length-map list f ∙ h in
-      record { whole = e; written = front-begins (omega arith) }
-
-  module _ {i : ℕ} {d : List ℕ} (w : Mapped f z list i d) where
-    pub map_next : {v : ℕ} → i < 64 → v ≡ f (get_or list i z) → Mapped f z list (i + 1) (set d i v)
-    map_next h e =
+  module _ {i : ℕ} (w : Placed f list i) where
+    pub place-next : {x : A} → i < length list → x ≡ f i → Placed f (set list i x) (i + 1)
+    place-next {x} h e =
         record {
-          whole = w.whole;
-          written = front-next w.written (f z) (omega (arith, w.whole)) (e ∙ sym (get_or-map f list i z));
+          upto = omega (arith, length-set list i x);
+          same =
+              ap (λ (k : ℕ). take k (set list i x)) (add-one i)
+              ∙ take-suc-set list i x h
+              ∙ (λ j. w.same j ++ (e j ∷ []))
+              ∙ ap (λ (k : ℕ). values f 0 i ++ (f k ∷ [])) (sym (zero-add i))
+              ∙ sym (values-more f 0 i)
+              ∙ ap (values f 0) (sym (add-one i));
         }
 
-    pub map-ends : 64 ≤ i → d ≡ map f list
-    unfolding front
-    map-ends h =
-        let g : 64 ≤ length (map f list) = omega (arith, w.whole) in
-        front_ends w.written (omega (arith, w.whole))
-        ∙ ap (λ (l : List ℕ). map f list ++ l) (drop_of_length-le (replicate 64 0) g)
-        ∙ append-nil (map f list)
-
-pub ruleset mapping = (map-begins, map_next, map-ends)
+-- ---- one number of each of 64 entries
+pub mapped : {A : Type 0} (f : A → ℕ) (z : A) (list : List A) (ys : List ℕ) → length list ≡ 64 → length ys ≡ 64
+    → ((i : ℕ) → i < 64 → get_or ys i (f z) ≡ f (get_or list i z)) → ys ≡ map f list
+mapped f z list ys e g h =
+    ext_get_or (f z) ys (map f list) (g ∙ sym (length-map list f ∙ e)) (λ i l. h i (omega arith) ∙ sym (get_or-map f list i z))
 
 -- ---- past its count a table reads as zero: nothing was put there
 module _ {A : Type 0} (z : A) where

@@ -25,7 +25,7 @@ take-map f zero l = refl
 take-map f (suc n) [] = refl
 take-map {B = B} f (suc n) (x ∷ l) = ap (λ (m : List B). f x ∷ m) (take-map f n l)
 
-every-same : (a b : ℕ → Bool) (i n : ℕ) → ((k : ℕ) → k < i + n → a k ≡ b k) → every a i n ≡ every b i n
+pub every-same : (a b : ℕ → Bool) (i n : ℕ) → ((k : ℕ) → k < i + n → a k ≡ b k) → every a i n ≡ every b i n
 unfolding every
 every-same a b i zero f = refl
 every-same a b i (suc n) f = λ j. f i (omega arith) j && every-same a b (suc i) n (λ k h. f k (omega arith)) j

@@ -9,13 +9,10 @@ use lib.Seq.{length-take-le, drop-nil, drop-append-add}
 use Rattle.little.specs.Numbers.{bytes_of}
 use Rattle.little.proofs.Filling.{drop-next}
 use Rattle.little.proofs.Reading.{length-bytes}
-use Rattle.codes.specs.Codes.{code_bytes}
-use Rattle.tables.specs.declared.Cue.{Cue}
 use Rattle.tables.specs.declared.Cues.{Cues}
-use Rattle.tables.specs.declared.Play.{Play}
 use Rattle.tables.specs.declared.Playlist.{Playlist}
 use Rattle.tables.specs.Tables.{held}
-use Rattle.tables.specs.Bytes.{entry_bytes, table_bytes, cue_bytes, cues_bytes, play_bytes, plays_bytes}
+use Rattle.tables.specs.Bytes.{entry_bytes, table_bytes, cue_bytes, cues_bytes, play_bytes, plays_bytes, cue-long, play-long}
 use Rattle.tables.proofs.Entries.{held-room}
 
 -- ---- entries of one size
@@ -51,14 +48,6 @@ module _ {A : Type 0} (bytes : A → List ℕ) (size : ℕ) (fixed : (a : A) →
       ∙ omega (arith, length-bytes 4 count, entries-long (take (held count) list), ap (λ (m : ℕ). size * m) k)
 
 -- ---- cues, of 24 bytes each, and playlist entries, of 12
-pub cue-long : (c : Cue) → length (cue_bytes c) ≡ 24
-unfolding cue_bytes code_bytes bytes_of
-cue-long c = refl
-
-pub play-long : (p : Play) → length (play_bytes p) ≡ 12
-unfolding play_bytes bytes_of
-play-long p = refl
-
 module _ (c : Cues) where
   pub cues-long : length c.list ≡ 64 → length (cues_bytes c) ≡ 4 + 24 * held c.count
   unfolding cues_bytes

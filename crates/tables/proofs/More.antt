@@ -1,43 +1,33 @@
--- A name among the cues, a table without entries and one with one entry more, in the words of the code. Assumes nothing.
-use mathlib.Core.Path.{◌≡◌, refl}
-use mathlib.Core.List.{List, map}
-use Prim.Native.Nat.{ℕ, ◌+◌, ◌≤◌}
-use native.Mathlib.Omega.{arith}
-use lib.ListN.{length, take, set, replicate}
-use Rattle.lists.specs.Among.{index_in}
+-- A name among the cues, and a table without entries, in the words of the code. Assumes nothing.
+use Rattle.std.proofs.Common.{◌≡◌, false, List, map, ℕ, ◌≤◌, ◌<◌, arith, length, take, replicate, length-take, Option, None, Some, MatchOption}
+use Rattle.lists.specs.Among.{index_in, has, place_in}
+use Rattle.lists.proofs.Laws.{place-found}
 use Rattle.tables.specs.declared.Cue.{Cue}
 use Rattle.tables.specs.declared.Cues.{Cues}
 use Rattle.tables.specs.declared.Play.{Play}
-use Rattle.tables.specs.declared.Playlist.{Playlist}
 use Rattle.tables.specs.Tables.{held}
 use Rattle.tables.specs.Cues.{no_cue, no_cues, name_of, names_in}
 use Rattle.tables.specs.Plays.{no_play, no_plays}
-use Rattle.tables.specs.More.{cues_with, plays_with}
-use Rattle.tables.proofs.Rules.{part-long}
+use Rattle.tables.proofs.Entries.{held-room}
 
 -- ---- a name
-pub name-sought : (c : Cues) (x n : ℕ) (names : List ℕ) {r : ℕ} → n ≡ held c.count → names ≡ map name_of c.list
-    → r ≡ index_in x (take n names) → r ≡ index_in x (names_in c)
+pub name-sought : (c : Cues) (x : ℕ) {n : ℕ} {names : List ℕ} {r : Option ℕ} → n ≡ held c.count → names ≡ map name_of c.list
+    → r ≡ place_in x (take n names) → r ≡ place_in x (names_in c)
 unfolding names_in
-name-sought c x n names e g h = simp (← e, ← g, h)
+name-sought c x e g h = simp (← e, ← g, h)
 
-pub within : (n : ℕ) (names : List ℕ) {r : ℕ} → length names ≡ 64 → n ≤ 64 → r ≤ length (take n names) → r ≤ 64
-within n names e h l = omega (arith, part-long n names e h)
+names-few : (c : Cues) → length (names_in c) ≤ held c.count
+unfolding names_in
+names-few c = omega (arith, length-take (held c.count) (map name_of c.list))
+
+-- no cue has it, or the first that has it stands at an index that is held
+pub cue-found : (c : Cues) (x : ℕ) (r : Option ℕ) → r ≡ place_in x (names_in c)
+    → MatchOption r (has x (names_in c) ≡ false)
+    (λ i. (i ≡ index_in x (names_in c)) × (i < length (names_in c)) × (i < held c.count) × (i < 64))
+cue-found c x None e = place-found x (names_in c) e
+cue-found c x (Some i) e =
+    let p : (i ≡ index_in x (names_in c)) × (i < length (names_in c)) = place-found x (names_in c) e in
+    let l = p.1 in
+    (p.0, l, omega (arith, names-few c), omega (arith, names-few c, held-room c.count))
 
 -- ---- a table without entries
-pub cues-none-made : {l : List Cue} → l ≡ replicate 64 no_cue → record { count = 0; list = l } ≡ no_cues
-cues-none-made e = simp e
-
-pub plays-none-made : {l : List Play} → l ≡ replicate 64 no_play → record { count = 0; list = l } ≡ no_plays
-plays-none-made e = simp e
-
--- ---- and with one more
-pub cue-more : (c : Cues) (x : Cue) → record { count = c.count + 1; list = set c.list c.count x } ≡ cues_with c x
-unfolding cues_with
-cue-more c x = refl
-
-pub play-more : (p : Playlist) (x : Play) → record { count = p.count + 1; list = set p.list p.count x } ≡ plays_with p x
-unfolding plays_with
-play-more p x = refl
-
-pub ruleset more = (cues-none-made, plays-none-made, part-long, name-sought, within, cue-more, play-more)

@@ -1,12 +1,12 @@
 -- The writes of `cue ` and `plst`, in the words of the code. Assumes nothing.
-use mathlib.Core.Path.{◌≡◌, refl, sym, ap, ◌∙◌, subst}
+use mathlib.Core.Path.{◌≡◌, refl, sym, ap, ◌∙◌, subst, subst₂}
 use mathlib.Core.List.{List, map, ◌++◌}
 use Prim.Native.Nat.{ℕ, ◌+◌, ◌*◌, ◌≤◌, ◌<◌}
 use native.Mathlib.Nat.{mul-zero, mul-suc, mul-le-mul_left}
 use native.Mathlib.Numerals.{add-one}
 use native.Mathlib.Omega.{arith}
 use lib.ListN.{length, take, get_or, length-map, length-append}
-use lib.Seq.{length-take-le, get_or-take}
+use lib.Seq.{length-take-le, get_or-take, take_all}
 use Rattle.little.specs.Numbers.{bytes_of}
 use Rattle.little.specs.Writing.{Put}
 use Rattle.little.proofs.Filling.{Written, put-long, put_next, write-begins, write-piece, write-ends}
@@ -19,7 +19,8 @@ use Rattle.tables.specs.declared.Play.{Play}
 use Rattle.tables.specs.declared.Playlist.{Playlist}
 use Rattle.tables.specs.Tables.{held}
 use Rattle.tables.specs.Bytes.{entry_bytes, table_bytes, cue_bytes, cues_bytes, play_bytes, plays_bytes}
-use Rattle.tables.proofs.Lengths.{entries-long, table-long, entry-from, cue-long, play-long, cues-long, plays-long}
+use Rattle.tables.proofs.Entries.{held-room}
+use Rattle.tables.proofs.Lengths.{entries-long, table-long, entry-from, cues-long, plays-long}
 
 -- ---- the sizes
 -- of an array in a struct the code knows how many values its entries have
@@ -27,13 +28,13 @@ pub array_long : {A B : Type 0} (f : A → B) (l : List A) (n : ℕ) → length 
 array_long f l n e = sym (length-map l f) ∙ e
 
 module _ {n : ℕ} where
-  pub cues-sized : (c : Cues) → n ≡ held c.count → length c.list ≡ 64 → 4 + 24 * n ≡ length (cues_bytes c)
+  pub cues-sized : (c : Cues) → n ≡ 4 + 24 * held c.count → length c.list ≡ 64 → n ≡ length (cues_bytes c)
   cues-sized c e h = omega (arith, cues-long c h)
 
-  pub plays-sized : (p : Playlist) → n ≡ held p.count → length p.list ≡ 64 → 4 + 12 * n ≡ length (plays_bytes p)
+  pub plays-sized : (p : Playlist) → n ≡ 4 + 12 * held p.count → length p.list ≡ 64 → n ≡ length (plays_bytes p)
   plays-sized p e h = omega (arith, plays-long p h)
 
-pub ruleset sizing = (array_long, cues-sized, plays-sized)
+pub ruleset sizing = (array_long, cues-sized, plays-sized, held-room)
 
 -- ---- one entry
 module _ {d e g : List ℕ} {at : ℕ} where
@@ -104,19 +105,30 @@ module _ {A : Type 0} {bytes : A → List ℕ} {size : ℕ} where
               (omega (arith, long, within h));
         }
 
+    -- at the place that was reached, an element that was lent
+    pub entry_step : {x : A} {next : ℕ} {e : List ℕ} → i < n → next ≡ at + size * i → x ≡ get_or list i x → Put d next (bytes x) e
+        → Entered bytes size list n (i + 1) at e d₀
+    entry_step {x} {next} {e} h k m p = entry_next x h (subst₂ (λ (j : ℕ) (y : A). Put d j (bytes y) e) k m p)
+
     pub entries-end : n ≤ i → Put d₀ at (entry_bytes bytes (take n list)) d
     entries-end h = let m : size * n ≤ size * i = mul-le-mul_left size h in write-ends w.written (omega (arith, long))
 
-pub ruleset entering = (cue-long, play-long, entries-begin, entry-room, entry_next, entries-end)
+    -- where these are all of the list
+    pub entries-whole : n ≡ length list → n ≤ i → Put d₀ at (entry_bytes bytes list) d
+    entries-whole e h =
+        let t : take n list ≡ list = take_all n list (omega arith) in
+        subst (λ (l : List A). Put d₀ at (entry_bytes bytes l) d) t (entries-end h)
+
+pub ruleset entering = (entries-begin, entry-room, entry_next, entries-whole)
 
 -- ---- the whole: the count, and behind it the entries
 module _ {A : Type 0} (bytes : A → List ℕ) (size : ℕ) (fixed : (a : A) → length (bytes a) ≡ size) (count : ℕ) (list : List A)
     (at : ℕ) (d : List ℕ) (h : length list ≡ 64) (l : at + length (table_bytes bytes count list) ≤ length d) where
-  count_room : at + 4 ≤ length d
+  pub count_room : at + 4 ≤ length d
   count_room = omega (arith, table-long bytes size fixed count list h)
 
   module _ {n : ℕ} (e : n ≡ held count) {g : List ℕ} (p : Put d at (bytes_of 4 count) g) where
-    list-room : at + 4 + size * n ≤ length g
+    pub list-room : at + 4 + size * n ≤ length g
     list-room =
         omega (
           arith,
@@ -125,39 +137,9 @@ module _ {A : Type 0} (bytes : A → List ℕ) (size : ℕ) (fixed : (a : A) →
           put-long p (omega (arith, count_room, length-bytes 4 count)),
         )
 
-    table-put : {k : List ℕ} → Put g (at + 4) (entry_bytes bytes (take n list)) k → Put d at (table_bytes bytes count list) k
+    pub table-put : {k : List ℕ} → Put g (at + 4) (entry_bytes bytes (take n list)) k → Put d at (table_bytes bytes count list) k
     unfolding table_bytes
     table-put {k} q =
         let r : Put g (at + 4) (entry_bytes bytes (take (held count) list)) k = subst (λ (m : ℕ). Put g (at + 4) (entry_bytes bytes (take m list)) k) e q in
         put_next p r (omega (arith, length-bytes 4 count))
         (omega (arith, length-append (bytes_of 4 count) (entry_bytes bytes (take (held count) list)), length-bytes 4 count))
-
-module _ (c : Cues) (at : ℕ) (d : List ℕ) (h : length c.list ≡ 64) (l : at + length (cues_bytes c) ≤ length d) where
-  pub cues-room : at + 4 ≤ length d
-  unfolding cues_bytes
-  cues-room = count_room cue_bytes 24 cue-long c.count c.list at d h l
-
-  module _ {n : ℕ} (e : n ≡ held c.count) {g : List ℕ} (p : Put d at (bytes_of 4 c.count) g) where
-    pub cue-list-room : at + 4 + 24 * n ≤ length g
-    unfolding cues_bytes
-    cue-list-room = list-room cue_bytes 24 cue-long c.count c.list at d h l e p
-
-    pub cues-put : {k : List ℕ} → Put g (at + 4) (entry_bytes cue_bytes (take n c.list)) k → Put d at (cues_bytes c) k
-    unfolding cues_bytes
-    cues-put q = table-put cue_bytes 24 cue-long c.count c.list at d h l e p q
-
-module _ (c : Playlist) (at : ℕ) (d : List ℕ) (h : length c.list ≡ 64) (l : at + length (plays_bytes c) ≤ length d) where
-  pub plays-room : at + 4 ≤ length d
-  unfolding plays_bytes
-  plays-room = count_room play_bytes 12 play-long c.count c.list at d h l
-
-  module _ {n : ℕ} (e : n ≡ held c.count) {g : List ℕ} (p : Put d at (bytes_of 4 c.count) g) where
-    pub play-list-room : at + 4 + 12 * n ≤ length g
-    unfolding plays_bytes
-    play-list-room = list-room play_bytes 12 play-long c.count c.list at d h l e p
-
-    pub plays-put : {k : List ℕ} → Put g (at + 4) (entry_bytes play_bytes (take n c.list)) k → Put d at (plays_bytes c) k
-    unfolding plays_bytes
-    plays-put q = table-put play_bytes 12 play-long c.count c.list at d h l e p q
-
-pub ruleset table-putting = (array_long, cues-room, cue-list-room, cues-put, plays-room, play-list-room, plays-put)

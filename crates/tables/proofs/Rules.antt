@@ -1,5 +1,5 @@
 -- Laws of the rules on cues and on playlists, in the words of the code. Assumes nothing.
-use mathlib.Core.Path.{◌≡◌, refl, ap, ◌∙◌}
+use mathlib.Core.Path.{◌≡◌, ap, ◌∙◌}
 use mathlib.Core.Bool.{Bool, true, false, not, and-false}
 use mathlib.Core.List.{List, map}
 use Prim.Native.Nat.{ℕ, ◌+◌, ◌*◌, ◌≤◌, ◌<◌}
@@ -7,11 +7,11 @@ use native.Mathlib.Omega.{arith}
 use lib.Dec.{leb}
 use lib.ListN.{length, take, get_or, length-take, get_or-map}
 use lib.Seq.{length-take-le, get_or-take}
-use mir.Syntax.{w32, w64}
+use mir.Syntax.{w64}
 use mir.Val.{Fits}
-use borrow.Author.Tests.{le-leb, lt-leb, lt-ltb, le-ltb, not-true, not-false}
+use borrow.Author.Tests.{le-leb, lt-leb, lt-ltb, not-true, not-false}
 use Rattle.lists.specs.Among.{index_in, has, distinct}
-use Rattle.lists.specs.Every.{all_below}
+use Rattle.lists.specs.Every.{every, all_below}
 use Rattle.lists.proofs.Laws.{Holding, hold-begins, hold-ends, hold-fails, hold-next}
 use Rattle.units.specs.declared.Frames.{Frames}
 use Rattle.tables.specs.declared.Cues.{Cues}
@@ -21,6 +21,7 @@ use Rattle.tables.specs.Tables.{held}
 use Rattle.tables.specs.Cues.{no_cue, name_of, place_of, names_in, places_in, cues_rule}
 use Rattle.tables.specs.Plays.{no_play, is_cue, cue_place, plays_from, playable, all_playable, plays_rule}
 use Rattle.tables.proofs.Entries.{held-room}
+use Rattle.tables.proofs.Kept.{every-same}
 
 -- ---- the first n numbers of arrays of m
 module _ (n : ℕ) (xs : List ℕ) {m : ℕ} (e : length xs ≡ m) where
@@ -48,26 +49,9 @@ module _ (c : Cues) (f : Frames) where
 
 -- ---- one entry from a place
 module _ (place f : Frames) (p : Play) where
-  pub play-empty : {least : ℕ} → p.length.0 < least → least ≤ 1 → false ≡ plays_from place f p
-  unfolding plays_from
-  play-empty g k = simp (lt-leb 1 p.length.0 (omega arith))
-
-  -- the sound is too short even from x, which is not past the place
-  pub play-past : {x : ℕ} → f.0 < x + p.length.0 → x ≤ place.0 → false ≡ plays_from place f p
-  unfolding plays_from
-  play-past g k =
-      let m : f.0 < place.0 + p.length.0 = omega arith in
-      simp (lt-leb (place.0 + p.length.0) f.0 m, and-false)
-
   pub play-within : 1 ≤ p.length.0 → place.0 + p.length.0 ≤ f.0 → leb 1 p.times ≡ plays_from place f p
   unfolding plays_from
   play-within g k = simp (le-leb 1 p.length.0 g, le-leb (place.0 + p.length.0) f.0 k)
-
--- the end of what is played, in 64 bits
-pub end_fits : (m n : ℕ) → Fits w32 m → Fits w32 n → Fits w64 (m + n)
-end_fits m n h g = record { fits = omega (arith, h.fits, g.fits) }
-
-pub ruleset playing = (end_fits, play-empty, play-past, play-within)
 
 -- ---- one entry, whose name was looked for among the cues' and found or not
 names-room : (c : Cues) → length (names_in c) ≤ 64
@@ -87,19 +71,20 @@ place_read c i h =
     get_or-take n (map place_of c.list) i 0 (omega (arith, length-take n (map name_of c.list)))
     ∙ get_or-map place_of c.list i no_cue
 
-module _ (c : Cues) (f : Frames) (p : Play) {names : List ℕ} (g : names ≡ names_in c) {found : ℕ} (e : found ≡ index_in p.name.0 names) where
-  at : found ≡ index_in p.name.0 (names_in c)
-  at = e ∙ ap (index_in p.name.0) g
+module _ (c : Cues) (f : Frames) (p : Play) {names : List ℕ} (g : names ≡ names_in c) where
+  pub play-unnamed : has p.name.0 names ≡ false → false ≡ playable c f p
+  unfolding playable is_cue
+  play-unnamed h = simp (rw g at h)
 
-  play-unnamed : length names ≤ found → false ≡ playable c f p
-  unfolding playable is_cue has
-  play-unnamed h = simp (← at, le-ltb found (length (names_in c)) (rw g at h))
-
-  play-named : {r : Bool} → found < length names → r ≡ plays_from (get_or c.list found no_cue).place f p → r ≡ playable c f p
+  pub play-named : (found : ℕ) {r : Bool} → found ≡ index_in p.name.0 names → found < length names
+      → r ≡ plays_from (get_or c.list found no_cue).place f p → r ≡ playable c f p
   unfolding playable is_cue cue_place has
-  play-named h q =
+  play-named found e h q =
+      let at : found ≡ index_in p.name.0 (names_in c) = e ∙ ap (index_in p.name.0) g in
       let l : found < length (names_in c) = rw g at h in
       q ∙ simp (← at, lt-ltb found (length (names_in c)) l, place_read c found l)
+
+pub ruleset playing = (found-room, found-fits, play-unnamed, play-named)
 
 -- ---- all entries, and the rule on a playlist
 pub record Played (c : Cues) (f : Frames) (list : List Play) (n i : ℕ) : Type 0 where
@@ -114,30 +99,31 @@ module _ {c : Cues} {f : Frames} {list : List Play} {n : ℕ} where
     unfolding all_playable
     played-ends h = hold-ends w.holding h
 
-    module _ (h : i < n) {names : List ℕ} (g : names ≡ names_in c) {found : ℕ} (e : found ≡ index_in (get_or list i no_play).name.0 names) where
-      pub played-unnamed : length names ≤ found → false ≡ all_playable c f list n
+    module _ (h : i < n) {r : Bool} (q : r ≡ playable c f (get_or list i no_play)) where
+      pub played-fails : not r ≡ true → false ≡ all_playable c f list n
       unfolding all_playable
-      played-unnamed l = hold-fails w.holding h (play-unnamed c f (get_or list i no_play) g e l) refl
+      played-fails b = hold-fails w.holding h q (not-true r b)
 
-      module _ (l : found < length names) {r : Bool} (q : r ≡ plays_from (get_or c.list found no_cue).place f (get_or list i no_play)) where
-        pub played-fails : not r ≡ true → false ≡ all_playable c f list n
-        unfolding all_playable
-        played-fails b = hold-fails w.holding h (play-named c f (get_or list i no_play) g e l q) (not-true r b)
+      pub played-next : not r ≡ false → Played c f list n (i + 1)
+      played-next b = record { holding = hold-next w.holding h q (not-false r b) }
 
-        pub played-next : not r ≡ false → Played c f list n (i + 1)
-        played-next b = record { holding = hold-next w.holding h (play-named c f (get_or list i no_play) g e l q) (not-false r b) }
-
--- a cue that was found is within the table's room
-pub ruleset played = (found-room, found-fits, played-begins, played-ends, played-unnamed, played-fails, played-next)
+pub ruleset played = (played-begins, played-ends, played-fails, played-next)
 
 module _ (p : Playlist) (c : Cues) (f : Frames) where
   pub plays-too-many : {most : ℕ} → most < p.count → 64 ≤ most → false ≡ plays_rule p c f
   unfolding plays_rule
   plays-too-many h g = simp (lt-leb p.count 64 (omega arith))
 
-  pub plays-all : {r : Bool} → p.count ≤ 64 → r ≡ all_playable c f p.list p.count → r ≡ plays_rule p c f
-  unfolding plays_rule
-  plays-all h q = simp (le-leb p.count 64 h, q)
+  pub plays-all : {r : Bool} → p.count ≤ 64 → length p.list ≡ 64 → r ≡ all_playable c f (take p.count p.list) (length (take p.count p.list))
+      → r ≡ plays_rule p c f
+  unfolding plays_rule all_playable
+  plays-all h l q =
+      let n : length (take p.count p.list) ≡ p.count = length-take-le p.count p.list (omega arith) in
+      q
+      ∙ ap (every (λ i. playable c f (get_or (take p.count p.list) i no_play)) 0) n
+      ∙ every-same (λ i. playable c f (get_or (take p.count p.list) i no_play)) (λ i. playable c f (get_or p.list i no_play)) 0 p.count
+      (λ i k. ap (playable c f) (get_or-take p.count p.list i no_play (omega arith)))
+      ∙ simp (le-leb p.count 64 h)
 
 pub names-lent : (c : Cues) {n : ℕ} {names : List ℕ} → n ≡ held c.count → names ≡ map name_of c.list → take n names ≡ names_in c
 unfolding names_in

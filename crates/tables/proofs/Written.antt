@@ -22,7 +22,8 @@ use Rattle.tables.specs.Plays.{plays_of, plays_form}
 use Rattle.tables.specs.Bytes.{cue_bytes, cues_bytes, play_bytes, plays_bytes, CuesFit, PlaysFit}
 use Rattle.tables.proofs.Entries.{held_all, cues-whole, plays-whole}
 use Rattle.tables.proofs.Forms as forms
-use Rattle.tables.proofs.Lengths.{cue-long, cues-long, plays-long}
+use Rattle.tables.specs.Bytes.{cue-long}
+use Rattle.tables.proofs.Lengths.{cues-long, plays-long}
 use Rattle.tables.proofs.Back.{there, count-said, entry-said}
 
 -- ---- every cue that is written counts from the start of the data

@@ -1,5 +1,6 @@
 -- The bytes of `cue ` and `plst`, as the writer puts them. Assumes nothing.
-use Rattle.std.specs.Prelude.{ℕ, ◌-◌, ◌<◌, ◌≡◌, List, [], ◌∷◌, ◌++◌, length, take, get_or, replicate}
+use Rattle.std.specs.Prelude.{ℕ, ◌-◌, ◌<◌, ◌≤◌, ◌≡◌, refl, List, [], ◌∷◌, ◌++◌, length, take, get_or, replicate}
+use lib.Dec.{lit≤}
 use Rattle.little.specs.Numbers.{bytes_of}
 use Rattle.codes.specs.Codes.{code_bytes}
 use Rattle.codes.specs.declared.Code.TheVariants.{Data}
@@ -55,6 +56,22 @@ plays_bytes p = table_bytes play_bytes p.count p.list
 
 unfoldable pub plays_kept : Playlist → Playlist
 plays_kept p = record { count = p.count; list = zero_past no_play p.count p.list }
+
+-- ---- an entry has one size: a cue 24 bytes, and a playlist entry 12
+
+pub cue-long : (c : Cue) → length (cue_bytes c) ≡ 24
+unfolding cue_bytes code_bytes bytes_of
+cue-long c = refl
+
+pub cue-small : 24 ≤ 24
+cue-small = lit≤ tt
+
+pub play-long : (p : Play) → length (play_bytes p) ≡ 12
+unfolding play_bytes bytes_of
+play-long p = refl
+
+pub play-small : 12 ≤ 24
+play-small = lit≤ tt
 
 -- ---- the numbers of a table fit the fields that they are written to, as those of the code's types do
 

@@ -14,6 +14,13 @@ there [] i c d h = absurd (omega arith)
 there (x ∷ l) zero c d h = refl
 there (x ∷ l) (suc i) c d h = there l i c d (omega arith)
 
+-- the entry that a title says
+pub said_at : (s : List ℕ) (list : List Title) (i : ℕ) → i < length list
+    → get_or (map (entry_in s) list) i no_entry ≡ entry_in s (get_or list i no_title)
+said_at s list i h =
+    there (map (entry_in s) list) i no_entry (entry_in s no_title) (omega (arith, length-map list (entry_in s)))
+    ∙ get_or-map (entry_in s) list i no_title
+
 module _ (s : List ℕ) (list : List Title) (n : ℕ) (h : n ≤ length list) where
   pub entries-long : length (first_entries s list n) ≡ n
   unfolding first_entries
@@ -22,6 +29,5 @@ module _ (s : List ℕ) (list : List Title) (n : ℕ) (h : n ≤ length list) wh
   pub entry_at : (i : ℕ) → i < n → get_or (first_entries s list n) i no_entry ≡ entry_in s (get_or list i no_title)
   unfolding first_entries
   entry_at i g =
-      there (map (entry_in s) (take n list)) i no_entry (entry_in s no_title) (omega (arith, entries-long))
-      ∙ get_or-map (entry_in s) (take n list) i no_title
+      said_at s (take n list) i (omega (arith, length-take-le n list h))
       ∙ ap (entry_in s) (get_or-take n list i no_title g)

@@ -2,7 +2,8 @@
 -- titles may be written. Assumes nothing.
 use mathlib.Core.Path.{◌≡◌, sym, ap, ◌∙◌, subst}
 use mathlib.Core.Bool.{Bool, true, false, not, ◌&&◌, and-false}
-use mathlib.Core.List.{List, ◌++◌}
+use mathlib.Core.List.{List, ◌++◌, map}
+use Rattle.std.proofs.Common.{None, Some}
 use Prim.Native.Nat.{ℕ, ◌+◌, ◌-◌, ◌≤◌, ◌<◌}
 use native.Mathlib.Omega.{arith}
 use lib.Dec.{ltb, leb, eqb}
@@ -16,10 +17,8 @@ use Rattle.tables.specs.declared.Cues.{Cues}
 use Rattle.tables.specs.Cues.{names_in}
 use Rattle.titles.specs.declared.Title.{Title}
 use Rattle.titles.specs.declared.Titles.{Titles}
-use Rattle.titles.specs.declared.Found.{Found}
-use Rattle.titles.specs.declared.ListRead.{ListRead}
-use Rattle.titles.specs.Titles.{Entry, no_entry, entry_in, first_entries, entries_of, closed, entry_rule, each_rule, names_by, entries_rule, texts_of, placed_from, no_title, no_titles, table_of, moved_in_turn}
-use Rattle.titles.specs.Lists.{entries_in, tiles, list_form, list_valid, list_read, Stands, FoundIn}
+use Rattle.titles.specs.Titles.{Entry, no_entry, entry_in, first_entries, closed, entry_rule, each_rule, names_by, entries_rule, texts_of, placed_from, no_title, table_of, moved_in_turn}
+use Rattle.titles.specs.Lists.{entries_in, tiles, list_form, list_valid, list_read, Stands, Formed}
 use Rattle.titles.specs.Writing.{texts_in_row, titles_right}
 use Rattle.titles.proofs.Entries.{entry_at}
 use Rattle.titles.proofs.Texts.{turn-placed, placed-long}
@@ -57,80 +56,80 @@ rule-kept names x e =
       named = a.1;
     }
 
--- ---- a list that is valid, case by case
-module _ (lost : Bool) (l : List ℕ) (c : Cues) where
-  invalid : list_valid lost l (names_in c) ≡ false → {r : ListRead} → r ≡ record { valid = false; titles = no_titles } → r ≡ list_read lost l (names_in c)
-  unfolding list_read
-  invalid e f = f ∙ sym (simp e)
+-- ---- the titles that were found in a list of that form
+module _ {lost : Bool} {l : List ℕ} {t : Titles} (formed : Formed lost l t) where
+  f : list_form lost l ≡ true
+  f = formed.form
 
-  pub valid-unformed : {r : ListRead} {f : Found} → r ≡ record { valid = false; titles = no_titles } → FoundIn lost l f → not f.form ≡ true
-      → r ≡ list_read lost l (names_in c)
-  unfolding list_valid
-  valid-unformed {f = f} none w g = invalid (simp (sym w.form ∙ not-true f.form g)) none
+  w : Stands l t
+  w = formed.stands
 
-  module _ {f : Found} (w : FoundIn lost l f) (g : not f.form ≡ false) where
-    stands : Stands l f.titles
-    stands = w.stands (not-false f.form g)
+  pub valid-few : t.count ≤ 128
+  unfolding list_form
+  valid-few = omega (arith, w.many, leb-true (length (entries_in l)) 128 (and_both (tiles lost l) (leb (length (entries_in l)) 128) f).1)
 
-    formed : list_form lost l ≡ true
-    formed = sym w.form ∙ not-false f.form g
+  module _ {ts : List Title} (q : ts ≡ take t.count t.list) where
+    first-long : length ts ≡ t.count
+    first-long = ap length q ∙ length-take-le t.count t.list (omega (arith, w.room, valid-few))
 
-    pub valid-few : f.titles.count ≤ 128
-    unfolding list_form
-    valid-few = omega (arith, stands.many, leb-true (length (entries_in l)) 128 (and_both (tiles lost l) (leb (length (entries_in l)) 128) formed).1)
+    first-at : (i : ℕ) → i < t.count → get_or ts i no_title ≡ get_or t.list i no_title
+    first-at i h = ap (λ (xs : List Title). get_or xs i no_title) q ∙ get_or-take t.count t.list i no_title h
 
-    module _ {b : Bool} (e : b ≡ entries_rule (names_in c) (entries_of l f.titles)) where
-      ruled : b ≡ entries_rule (names_in c) (entries_in l)
-      ruled = e ∙ ap (entries_rule (names_in c)) stands.entries
+    pub first-few : length ts ≤ 128
+    first-few = omega (arith, first-long, valid-few)
 
-      pub valid-broken : {r : ListRead} → r ≡ record { valid = false; titles = no_titles } → not b ≡ true → r ≡ list_read lost l (names_in c)
-      unfolding list_valid
-      valid-broken none k = invalid (simp (sym ruled ∙ not-true b k, and-false)) none
+    said : map (entry_in l) ts ≡ entries_in l
+    unfolding first_entries
+    said = ap (map (entry_in l)) q ∙ w.entries
+
+    -- their texts
+    pub texts-room : {n : ℕ} → length (texts_of (entries_in l)) ≤ n → length (texts_of (map (entry_in l) ts)) ≤ n
+    texts-room h = omega (arith, ap (λ (es : List Entry). length (texts_of es)) said)
+
+    pub texts-all : (d : List ℕ) {g : List ℕ} → g ≡ front (texts_of (map (entry_in l) ts)) d → g ≡ front (texts_of (entries_in l)) d
+    texts-all d h = h ∙ ap (λ (es : List Entry). front (texts_of es) d) said
+
+    -- and whether they keep the rule
+    module _ (names : List ℕ) {b : Bool} (e : b ≡ entries_rule names (map (entry_in l) ts)) where
+      ruled : b ≡ entries_rule names (entries_in l)
+      ruled = e ∙ ap (entries_rule names) said
+
+      pub valid-broken : not b ≡ true → None ≡ list_read lost l names
+      unfolding list_valid list_read
+      valid-broken k = simp (sym ruled ∙ not-true b k, and-false)
 
       module _ (k : not b ≡ false) where
-        kept : (i : ℕ) → i < f.titles.count → Kept (names_in c) (entry_in l (get_or f.titles.list i no_title))
+        kept : (i : ℕ) → i < t.count → Kept names (entry_in l (get_or t.list i no_title))
         kept i o =
-            subst (Kept (names_in c)) (ap (λ (es : List Entry). get_or es i no_entry) (sym stands.entries) ∙ entry_at l f.titles.list f.titles.count (omega (arith, stands.room, valid-few)) i o)
-            (rule-kept (names_in c) (get_or (entries_in l) i no_entry) (entry_kept (names_in c) (entries_in l) (sym ruled ∙ not-false b k) i (omega (arith, stands.many))))
+            subst (Kept names)
+            (ap (λ (es : List Entry). get_or es i no_entry) (sym w.entries) ∙ entry_at l t.list t.count (omega (arith, w.room, valid-few)) i o)
+            (rule-kept names (get_or (entries_in l) i no_entry) (entry_kept names (entries_in l) (sym ruled ∙ not-false b k) i (omega (arith, w.many))))
 
-        pub valid-short : (i : ℕ) → i < f.titles.count → (get_or f.titles.list i no_title).length.0 ≤ 255
-        valid-short i o = omega (arith, stands.long i o, (kept i o).short)
+        pub valid-short : (i : ℕ) → i < length ts → (get_or ts i no_title).length.0 ≤ 255
+        valid-short i o =
+            let h : i < t.count = omega (arith, first-long) in
+            subst (λ (x : Title). x.length.0 ≤ 255) (sym (first-at i h)) (omega (arith, w.long i h, (kept i h).short))
 
-        pub valid-made : {places : List Title} → places ≡ moved_in_turn 0 (take f.titles.count f.titles.list) ++ replicate (128 - f.titles.count) no_title
-            → record { valid = true; titles = record { count = f.titles.count; list = places } } ≡ list_read lost l (names_in c)
-        unfolding list_read list_valid table_of first_entries
-        valid-made e =
-            let ts : List Title = take f.titles.count f.titles.list in
-            let n : length ts ≡ f.titles.count = length-take-le f.titles.count f.titles.list (omega (arith, stands.room, valid-few)) in
+        pub valid-made : {places : List Title} → places ≡ moved_in_turn 0 ts ++ replicate (128 - length ts) no_title
+            → Some (record { count = t.count; list = places }) ≡ list_read lost l names
+        unfolding list_read list_valid table_of
+        valid-made {places} g =
             let p : moved_in_turn 0 ts ≡ placed_from 0 (entries_in l) =
             turn-placed 0 l ts
-            (λ i o. subst (λ (t : Title). length (entry_in l t).text ≡ t.length.0 + 1) (sym (get_or-take f.titles.count f.titles.list i no_title (omega (arith, n)))) (stands.long i (omega (arith, n))))
-            ∙ ap (placed_from 0) stands.entries in
-            let m : f.titles.count ≡ length (placed_from 0 (entries_in l)) = stands.many ∙ sym (placed-long 0 (entries_in l)) in
-            (λ i. record { valid = true; titles = record { count = m i; list = (e ∙ (λ j. p j ++ replicate (128 - m j) no_title)) i } })
-            ∙ sym (simp (formed, sym ruled ∙ not-false b k))
+            (λ i o. subst (λ (x : Title). length (entry_in l x).text ≡ x.length.0 + 1) (sym (first-at i (omega (arith, first-long)))) (w.long i (omega (arith, first-long))))
+            ∙ ap (placed_from 0) said in
+            let m : t.count ≡ length (placed_from 0 (entries_in l)) = w.many ∙ sym (placed-long 0 (entries_in l)) in
+            let r : places ≡ placed_from 0 (entries_in l) ++ replicate (128 - length (placed_from 0 (entries_in l))) no_title =
+            g ∙ (λ j. p j ++ replicate (128 - (first-long ∙ m) j) no_title) in
+            (λ i. Some (record { count = m i; list = r i })) ∙ sym (simp (f, sym ruled ∙ not-false b k))
 
-pub ruleset valid-list = (valid-unformed, valid-few, valid-broken, valid-short, valid-made)
+pub unformed : (lost : Bool) (l names : List ℕ) → list_form lost l ≡ false → None ≡ list_read lost l names
+unfolding list_read list_valid
+unformed lost l names e = simp e
 
--- ---- the texts of a list that has its form
-module _ {lost : Bool} {l : List ℕ} {f : Found} (w : FoundIn lost l f) (e : list_form lost l ≡ true) where
-  found-stands : Stands l f.titles
-  found-stands = w.stands (w.form ∙ e)
+pub ruleset valid_list = (valid-few, first-few, valid-broken, valid-short, valid-made, unformed)
 
-  same-texts : texts_of (first_entries l f.titles.list f.titles.count) ≡ texts_of (entries_in l)
-  same-texts = ap texts_of found-stands.entries
-
-  pub texts-few : f.titles.count ≤ 128
-  unfolding list_form
-  texts-few = omega (arith, found-stands.many, leb-true (length (entries_in l)) 128 (and_both (tiles lost l) (leb (length (entries_in l)) 128) e).1)
-
-  pub texts-room : {n : ℕ} → length (texts_of (entries_in l)) ≤ n → length (texts_of (first_entries l f.titles.list f.titles.count)) ≤ n
-  texts-room h = omega (arith, ap length same-texts)
-
-  pub texts-all : (d : List ℕ) {g : List ℕ} → g ≡ front (texts_of (first_entries l f.titles.list f.titles.count)) d → g ≡ front (texts_of (entries_in l)) d
-  texts-all d h = h ∙ ap (λ (ys : List ℕ). front ys d) same-texts
-
-pub ruleset list-texts = (texts-few, texts-room, texts-all)
+pub ruleset list_texts = (valid-few, first-few, texts-room, texts-all)
 
 -- ---- titles that may be written
 module _ (s : List ℕ) (t : Titles) (c : Cues) where
@@ -138,13 +137,9 @@ module _ (s : List ℕ) (t : Titles) (c : Cues) where
   unfolding titles_right
   right-many h = simp (lt-leb t.count 128 h)
 
-  module _ (h : t.count ≤ 128) {b : Bool} (e : b ≡ texts_in_row (length s) 0 (take t.count t.list)) where
-    pub right-elsewhere : not b ≡ true → false ≡ titles_right (names_in c) s t
-    unfolding titles_right
-    right-elsewhere f = simp (sym e ∙ not-true b f, and-false)
+  pub right_few : t.count ≤ 128 → {ts : List Title} → ts ≡ take t.count t.list
+      → titles_right (names_in c) s t ≡ (texts_in_row (length s) 0 ts && entries_rule (names_in c) (map (entry_in s) ts))
+  unfolding titles_right first_entries
+  right_few h q = simp (le-leb t.count 128 h, q)
 
-    pub right-ruled : {r : Bool} → not b ≡ false → r ≡ entries_rule (names_in c) (entries_of s t) → r ≡ titles_right (names_in c) s t
-    unfolding titles_right
-    right-ruled f g = g ∙ sym (simp (le-leb t.count 128 h, sym e ∙ not-false b f))
-
-pub ruleset right = (right-many, right-elsewhere, right-ruled)
+pub ruleset right = (right-many, right_few)

@@ -4,7 +4,8 @@ use mathlib.Core.Path.{◌≡◌, refl, sym, ap, ◌∙◌, subst}
 use mathlib.Core.List.{List, [], ◌∷◌, ◌++◌, map}
 use Prim.Native.Nat.{ℕ, ◌+◌, ◌*◌, ◌%◌, ◌^◌, ◌≤◌, ◌<◌}
 use native.Mathlib.Omega.{arith}
-use lib.ListN.{length, drop, get_or, length-append}
+use lib.ListN.{length, take, drop, get_or, length-append, length-take}
+use lib.Seq.{get_or-take}
 use mir.Syntax.{w32, w64}
 use mir.Val.{Fits}
 use borrow.Author.Tests.{eq-eqb, ne_eqb}
@@ -21,7 +22,8 @@ use Rattle.riff.proofs.Laying.{length-piece}
 use Rattle.riff.proofs.Putting.{data-room, pad-fits, padded}
 use Rattle.tables.specs.Bytes.{entry_bytes}
 use Rattle.titles.specs.declared.Title.{Title}
-use Rattle.titles.specs.Titles.{Entry, entry_in, first_entries, no_title}
+use Rattle.titles.specs.declared.Titles.{Titles}
+use Rattle.titles.specs.Titles.{Entry, entry_in, first_entries, entries_of, no_title}
 use Rattle.titles.specs.Writing.{title_code, piece_of, chunk_of, list_bytes, Short}
 use Rattle.titles.proofs.Pouring.{bytes_next, bytes-over}
 
@@ -103,35 +105,36 @@ module _ (s : List ℕ) (t : Title) {text : List ℕ} (m : text ≡ (entry_in s 
       unfolding piece_of
       title-put r = padded (title_code t.kind) (data_of (entry_in s t)) opened headed filled (sym data-long) r
 
-pub ruleset chunk-sizing = (chunk-sized, chunk-most, chunk-even)
+pub ruleset chunk_sizing = (chunk-sized, chunk-most, chunk-even)
 
 pub ruleset titling = (size_fits_lem, head-fits, pad-place, chunk_end, named-room, pad-room, title-put, chunk_next)
 
 -- ---- how many bytes the chunks take: size so far, and those that are left
-pub record Added (s : List ℕ) (list : List Title) (n i size : ℕ) : Type 0 where
-  pub few : n ≤ length list
-  pub room : n ≤ 128
-  pub upto : i ≤ n
+pub record Added (s : List ℕ) (list : List Title) (i size : ℕ) : Type 0 where
+  pub few : length list ≤ 128
+  pub upto : i ≤ length list
   pub small : size ≤ 268 * i
   pub even : size % 2 ≡ 0
-  pub same : size + length (entry_bytes chunk_of (drop i (first_entries s list n))) ≡ length (entry_bytes chunk_of (first_entries s list n))
+  pub same : size + length (entry_bytes chunk_of (drop i (map (entry_in s) list))) ≡ length (entry_bytes chunk_of (map (entry_in s) list))
 
-module _ {s : List ℕ} {list : List Title} {n : ℕ} where
-  pub text-short : Short s list n → {i : ℕ} → i < n → length (entry_in s (get_or list i no_title)).text ≤ 256
+module _ {s : List ℕ} {list : List Title} where
+  pub text-short : Short s list (length list) → {i : ℕ} → i < length list → length (entry_in s (get_or list i no_title)).text ≤ 256
   text-short a {i} h = a.texts i h
 
-  module _ {i size : ℕ} (w : Added s list n i size) where
-    pub add-ends : n ≤ i → size ≡ length (entry_bytes chunk_of (first_entries s list n))
-    add-ends h = omega (arith, w.same, ap length (bytes-over chunk_of s list n i w.few h))
+  pub add-begins : Short s list (length list) → Added s list 0 0
+  add-begins a = record { few = a.few; upto = omega arith; small = omega arith; even = refl; same = omega arith }
 
-    pub add-next : i < n → {k : ℕ} → k ≡ length (chunk_of (entry_in s (get_or list i no_title))) → k ≤ 268 → k % 2 ≡ 0
-        → Added s list n (i + 1) (size + k)
+  module _ {i size : ℕ} (w : Added s list i size) where
+    pub add-ends : length list ≤ i → size ≡ length (entry_bytes chunk_of (map (entry_in s) list))
+    add-ends h = omega (arith, w.same, ap length (bytes-over chunk_of s list i h))
+
+    pub add-next : i < length list → {k : ℕ} → k ≡ length (chunk_of (entry_in s (get_or list i no_title))) → k ≤ 268 → k % 2 ≡ 0
+        → Added s list (i + 1) (size + k)
     add-next h {k} e b v =
-        let es : List Entry = first_entries s list n in
+        let es : List Entry = map (entry_in s) list in
         let chunk : List ℕ = chunk_of (entry_in s (get_or list i no_title)) in
         record {
           few = w.few;
-          room = w.room;
           upto = omega arith;
           small = omega (arith, w.small);
           even = omega (arith, w.even);
@@ -139,12 +142,25 @@ module _ {s : List ℕ} {list : List Title} {n : ℕ} where
               omega (
                 arith,
                 w.same,
-                ap length (bytes_next chunk_of s list n i w.few h),
+                ap length (bytes_next chunk_of s list i h),
                 length-append chunk (entry_bytes chunk_of (drop (i + 1) es)),
               );
         }
 
-pub ruleset adding = (add-ends, add-next, text-short)
+pub ruleset adding = (add-begins, add-ends, add-next, text-short)
+
+-- the titles that a table counts
+pub short-first : {s : List ℕ} {t : Titles} {ts : List Title} → Short s t.list t.count → ts ≡ take t.count t.list → Short s ts (length ts)
+short-first {s} {t} a q =
+    let n = length-take t.count t.list in
+    subst (λ (xs : List Title). Short s xs (length xs)) (sym q)
+    (record {
+      few = omega (arith, a.few);
+      texts =
+          λ i h.
+          subst (λ (x : Title). length (entry_in s x).text ≤ 256) (sym (get_or-take t.count t.list i no_title (omega arith)))
+          (a.texts i (omega arith));
+    })
 
 -- ---- the list: its code, and the chunks behind it
 body-entries : (es : List Entry) → body_bytes (map piece_of es) ≡ entry_bytes chunk_of es
@@ -175,4 +191,25 @@ module _ (es : List Entry) where
         subst (λ (l : List ℕ). Put d at l g) (sym (list-parts es))
         (put_next p q (omega (arith, length-code code.Titles)) (omega (arith, list-long es)))
 
-pub ruleset listing = (list-sized, code-room, chunks-room, list_put)
+-- of the titles that a table counts
+module _ (s : List ℕ) (t : Titles) where
+  pub said-room : (at : ℕ) {x : ℕ} → at + length (list_bytes (entries_of s t)) ≤ x → at + 4 ≤ x
+  said-room at h = code-room (entries_of s t) at h
+
+  module _ {ts : List Title} (q : ts ≡ take t.count t.list) where
+    same : entries_of s t ≡ map (entry_in s) ts
+    unfolding first_entries
+    same = ap (map (entry_in s)) (sym q)
+
+    pub list-said : {n : ℕ} → n ≡ length (entry_bytes chunk_of (map (entry_in s) ts)) → 4 + n ≡ length (list_bytes (entries_of s t))
+    list-said e = list-sized (entries_of s t) (e ∙ ap (λ (es : List Entry). length (entry_bytes chunk_of es)) (sym same))
+
+    module _ {d e : List ℕ} {at : ℕ} (h : at + length (list_bytes (entries_of s t)) ≤ length d) (p : Put d at (code_bytes code.Titles) e) where
+      pub said-chunks : at + 4 + length (entry_bytes chunk_of (map (entry_in s) ts)) ≤ length e
+      said-chunks =
+          omega (arith, chunks-room (entries_of s t) h p, ap (λ (es : List Entry). length (entry_bytes chunk_of es)) same)
+
+      pub said-put : {g : List ℕ} → Put e (at + 4) (entry_bytes chunk_of (map (entry_in s) ts)) g → Put d at (list_bytes (entries_of s t)) g
+      said-put {g} r = list_put (entries_of s t) h p (subst (λ (es : List Entry). Put e (at + 4) (entry_bytes chunk_of es) g) (sym same) r)
+
+pub ruleset listing = (short-first, list-said, said-room, said-chunks, said-put)

@@ -1,122 +1,72 @@
 -- The rule on titles in the words of the code: a text, a title, all titles, and the cues that those of a kind name. Assumes nothing.
-use mathlib.Core.Path.{◌≡◌, refl, sym, ap, ◌∙◌}
-use mathlib.Core.Bool.{Bool, true, false, not, cond, and-false}
-use mathlib.Core.List.{List, [], ◌∷◌, ◌++◌, map, append-nil}
-use Prim.Native.Nat.{ℕ, suc, ◌+◌, ◌-◌, ◌≤◌, ◌<◌}
-use native.Mathlib.Numerals.{add-one}
-use native.Mathlib.Omega.{arith}
-use lib.Dec.{ltb, leb, eqb}
-use lib.ListN.{length, take, drop, get_or, set, replicate, drop_of_length-le, length-replicate, length-append}
-use lib.Seq.{drop-cons, set_at, append_snoc, take_at}
-use borrow.Author.Tests.{lt-ltb, le-ltb, lt-leb, le-leb, leb-true, eq-eqb, ne_eqb, not-true, not-false}
-use Rattle.lists.specs.Among.{index_in, has, distinct}
-use Rattle.lists.specs.Every.{every}
-use Rattle.lists.proofs.Laws.{Holding, hold-begins, hold-ends, hold-fails, hold-next, Seeking}
+use Rattle.std.proofs.Common.{◌≡◌, refl, sym, ap, ◌∙◌, Bool, true, false, cond, ◌&&◌, List, [], ◌∷◌, ◌++◌, map, append-nil, ℕ, suc, ◌+◌, ◌-◌, ◌≤◌, ◌<◌, ◌↔◌, add-one, arith, eqb, length, take, drop, get_or, set, replicate, drop_of_length-le, length-append, drop-cons, take_at, Option, None, Some, position}
+use lib.ListN.{length-map, length-replicate}
+use lib.Seq.{set_at, append_snoc}
+use borrow.Author.Tests.{eq-eqb, ne_eqb, ltb-false}
+use Rattle.lists.specs.Among.{index_in, has, place_in, distinct}
+use Rattle.lists.proofs.Laws.{place-some, every-is, position-place, place-found}
 use Rattle.tables.specs.declared.Cues.{Cues}
 use Rattle.tables.specs.Tables.{held}
 use Rattle.tables.specs.Cues.{name_of, names_in}
 use Rattle.titles.specs.declared.Title.{Title}
-use Rattle.titles.specs.declared.Titles.{Titles}
-use Rattle.titles.specs.declared.Found.{Found}
-use Rattle.titles.specs.declared.ListRead.{ListRead}
-use Rattle.titles.specs.Titles.{Entry, no_entry, entry_in, first_entries, closed, entry_rule, each_rule, names_by, entries_rule, no_title, no_titles}
-use Rattle.titles.proofs.Entries.{entries-long, entry_at}
+use Rattle.titles.specs.Titles.{Entry, no_entry, entry_in, closed, entry_rule, each_rule, names_by, entries_rule, no_title, no_titles}
+use Rattle.titles.proofs.Entries.{said_at}
 
--- ---- a text: the place of its first zero
-pub seek-begins : (x : ℕ) (ys : List ℕ) → Seeking x ys 0
-seek-begins x ys = record { room = omega arith; same = omega arith }
+-- ---- a text: where its first zero is found, and where none is
+module _ (text : List ℕ) where
+  first-zero : {r : Option ℕ} → r ≡ position (λ y. eqb y 0) text → r ≡ place_in 0 text
+  first-zero e = e ∙ position-place 0 text
 
-pub is-closed : (text : List ℕ) {z : ℕ} → z ≡ index_in 0 text → eqb (z + 1) (length text) ≡ closed text
-unfolding closed
-is-closed text e = simp e
+  pub is-closed : {z : ℕ} → Some z ≡ position (λ y. eqb y 0) text → eqb (z + 1) (length text) ≡ closed text
+  unfolding closed
+  is-closed {z} e =
+      let p : (z ≡ index_in 0 text) × (z < length text) = place-found 0 text (first-zero e) in
+      ap (λ (k : ℕ). eqb (k + 1) (length text)) p.0
 
--- ---- one title
-module _ (names s : List ℕ) (t : Title) where
-  abbrev e : Entry
-  e = entry_in s t
+  pub is-open : None ≡ position (λ y. eqb y 0) text → false ≡ closed text
+  unfolding closed has
+  is-open e =
+      let l : length text ≤ index_in 0 text = ltb-false (index_in 0 text) (length text) (place-found 0 text (first-zero e)) in
+      simp (ne_eqb (index_in 0 text + 1) (length text) (λ (k : index_in 0 text + 1 ≡ length text). omega arith))
 
-  pub rule-unkind : 2 ≤ t.kind → false ≡ entry_rule names e
-  unfolding entry_rule
-  rule-unkind h = simp (le-ltb t.kind 2 h)
+-- ---- a title that names a cue
+pub ruleset named = (place-some)
 
-  module _ (h : t.kind < 2) {text : List ℕ} (m : text ≡ (entry_in s t).text) where
-    pub rule-long : {k : ℕ} → k < length text → leb 256 k ≡ true → false ≡ entry_rule names e
-    unfolding entry_rule
-    rule-long {k} g b =
-        let l : 256 < length e.text = omega (arith, ap length m, leb-true 256 k b) in
-        simp (lt-leb (length e.text) 256 l, and-false)
-
-    module _ {b : Bool} (d : b ≡ closed text) where
-      of-text : {x : Bool} → b ≡ x → closed e.text ≡ x
-      of-text k = ap closed (sym m) ∙ sym d ∙ k
-
-      pub rule-open : not b ≡ true → false ≡ entry_rule names e
-      unfolding entry_rule
-      rule-open k = simp (of-text (not-true b k), and-false)
-
-      pub rule-named : {n : ℕ} → length text ≤ 256 → not b ≡ false → n ≡ index_in t.name.0 names → ltb n (length names) ≡ entry_rule names e
-      unfolding entry_rule has
-      rule-named g k x =
-          let l : length e.text ≤ 256 = omega (arith, ap length m) in
-          simp (lt-ltb t.kind 2 h, le-leb (length e.text) 256 l, of-text (not-false b k), x)
-
-pub ruleset titling = (rule-unkind, rule-long, rule-open, rule-named)
-
--- ---- the first n titles, each in its turn
-pub record Keeping (names s : List ℕ) (list : List Title) (n i : ℕ) : Type 0 where
-  pub few : n ≤ length list
-  pub holding : Holding (λ k. entry_rule names (get_or (first_entries s list n) k no_entry)) n i
-
-module _ {names s : List ℕ} {list : List Title} {n : ℕ} where
-  pub keep-begins : length list ≡ 128 → n ≤ 128 → Keeping names s list n 0
-  keep-begins e h = record { few = omega arith; holding = hold-begins }
-
-  module _ {i : ℕ} (w : Keeping names s list n i) where
-    abbrev es : List Entry
-    es = first_entries s list n
-
-    each-so : {b : Bool} → b ≡ every (λ k. entry_rule names (get_or es k no_entry)) 0 n → b ≡ each_rule names es
-    unfolding each_rule
-    each-so f = f ∙ ap (every (λ k. entry_rule names (get_or es k no_entry)) 0) (sym (entries-long s list n w.few))
-
-    pub keep-ends : n ≤ i → true ≡ each_rule names (first_entries s list n)
-    keep-ends h = each-so (hold-ends w.holding h)
-
-    module _ (h : i < n) {r : Bool} (f : r ≡ entry_rule names (entry_in s (get_or list i no_title))) where
-      ruled : r ≡ entry_rule names (get_or es i no_entry)
-      ruled = f ∙ ap (entry_rule names) (sym (entry_at s list n w.few i h))
-
-      pub keep-fails : not r ≡ true → false ≡ each_rule names (first_entries s list n)
-      keep-fails g = each-so (hold-fails w.holding h ruled (not-true r g))
-
-      pub keep-next : not r ≡ false → Keeping names s list n (i + 1)
-      keep-next g = record { few = w.few; holding = hold-next w.holding h ruled (not-false r g) }
-
-pub ruleset keeping = (keep-begins, keep-ends, keep-fails, keep-next)
+-- ---- all titles
+module _ (names s : List ℕ) (list : List Title) (r : Bool) where
+  pub each-is : (r ≡ true ↔ ((k : ℕ) → k < length list → entry_rule names (entry_in s (get_or list k no_title)) ≡ true))
+      → r ≡ each_rule names (map (entry_in s) list)
+  unfolding each_rule
+  each-is e =
+      let es : List Entry = map (entry_in s) list in
+      let n : length es ≡ length list = length-map list (entry_in s) in
+      every-is (λ k. entry_rule names (get_or es k no_entry)) (length es) r (
+        λ t k g. ap (entry_rule names) (said_at s list k (omega arith)) ∙ e.0 t k (omega arith),
+        λ f. e.1 (λ k g. sym (ap (entry_rule names) (said_at s list k g)) ∙ f k (omega arith)),
+      )
 
 -- ---- the cues that titles of a kind name, of which count are in the array
-pub record Naming (kind : ℕ) (list : List Title) (n count i : ℕ) (names : List ℕ) : Type 0 where
-  pub few : n ≤ 128
-  pub room : length list ≡ 128
+pub record Naming (kind : ℕ) (list : List Title) (count i : ℕ) (names : List ℕ) : Type 0 where
+  pub few : length list ≤ 128
   pub upto : count ≤ i
-  pub within : i ≤ n
+  pub within : i ≤ length list
   pub before : List ℕ
   pub many : length before ≡ count
-  pub same : before ++ names_by kind (drop i (first_entries [] list n)) ≡ names_by kind (first_entries [] list n)
+  pub same : before ++ names_by kind (drop i (map (entry_in []) list)) ≡ names_by kind (map (entry_in []) list)
   pub held : names ≡ before ++ replicate (128 - count) 0
 
-module _ {kind : ℕ} {list : List Title} {n : ℕ} where
-  pub name-begins : length list ≡ 128 → n ≤ 128 → Naming kind list n 0 0 (replicate 128 0)
-  name-begins e h = record { few = h; room = e; upto = omega arith; within = omega arith; before = []; many = refl; same = refl; held = refl }
+module _ {kind : ℕ} {list : List Title} where
+  pub name-begins : length list ≤ 128 → Naming kind list 0 0 (replicate 128 0)
+  name-begins h = record { few = h; upto = omega arith; within = omega arith; before = []; many = refl; same = refl; held = refl }
 
-  module _ {count i : ℕ} {names : List ℕ} (w : Naming kind list n count i names) where
+  module _ {count i : ℕ} {names : List ℕ} (w : Naming kind list count i names) where
     abbrev ones : List Entry
-    ones = first_entries [] list n
+    ones = map (entry_in []) list
 
-    all-long : length (first_entries [] list n) ≡ n
-    all-long = entries-long [] list n (omega (arith, w.room, w.few))
+    all-long : length (map (entry_in []) list) ≡ length list
+    all-long = length-map list (entry_in [])
 
-    names-all : n ≤ i → take count names ≡ names_by kind (first_entries [] list n)
+    names-all : length list ≤ i → take count names ≡ names_by kind (map (entry_in []) list)
     unfolding names_by
     names-all h =
         ap (take count) w.held
@@ -125,7 +75,7 @@ module _ {kind : ℕ} {list : List Title} {n : ℕ} where
         ∙ sym (ap (λ (l : List Entry). w.before ++ names_by kind l) (drop_of_length-le ones {i = i} (omega (arith, all-long))))
         ∙ w.same
 
-    pub name-ends : {r : Bool} → n ≤ i → r ≡ distinct (take count names) → r ≡ distinct (names_by kind (first_entries [] list n))
+    pub name-ends : {r : Bool} → length list ≤ i → r ≡ distinct (take count names) → r ≡ distinct (names_by kind (map (entry_in []) list))
     name-ends h e = e ∙ ap distinct (names-all h)
 
     pub name-bound : count ≤ 128
@@ -137,18 +87,17 @@ module _ {kind : ℕ} {list : List Title} {n : ℕ} where
     pub name-within : count ≤ length names
     name-within = omega (arith, name-bound, name-long)
 
-    module _ (h : i < n) where
+    module _ (h : i < length list) where
       first : drop i ones ≡ entry_in [] (get_or list i no_title) ∷ drop (i + 1) ones
       first =
           drop-cons ones i no_entry (omega (arith, all-long))
-          ∙ (λ j. entry_at [] list n (omega (arith, w.room, w.few)) i h j ∷ drop (sym (add-one i) j) ones)
+          ∙ (λ j. said_at [] list i h j ∷ drop (sym (add-one i) j) ones)
 
-      pub name-other : ((get_or list i no_title).kind ≡ kind → ⊥) → Naming kind list n count (i + 1) names
+      pub name-other : ((get_or list i no_title).kind ≡ kind → ⊥) → Naming kind list count (i + 1) names
       unfolding names_by
       name-other f =
           record {
             few = w.few;
-            room = w.room;
             upto = omega (arith, w.upto);
             within = omega arith;
             before = w.before;
@@ -162,7 +111,7 @@ module _ {kind : ℕ} {list : List Title} {n : ℕ} where
       pub name-room : count < 128
       name-room = omega (arith, w.upto, w.few)
 
-      pub name-next : {x : ℕ} → (get_or list i no_title).kind ≡ kind → x ≡ (get_or list i no_title).name.0 → Naming kind list n (count + 1) (i + 1) (set names count x)
+      pub name-next : {x : ℕ} → (get_or list i no_title).kind ≡ kind → x ≡ (get_or list i no_title).name.0 → Naming kind list (count + 1) (i + 1) (set names count x)
       unfolding names_by
       name-next {x} f g =
           let m : 128 - count ≡ suc (128 - (count + 1)) = omega (arith, name-room) in
@@ -170,7 +119,6 @@ module _ {kind : ℕ} {list : List Title} {n : ℕ} where
           let later : List ℕ = names_by kind (drop (i + 1) ones) in
           record {
             few = w.few;
-            room = w.room;
             upto = omega (arith, w.upto);
             within = omega arith;
             before = w.before ++ (x ∷ []);
@@ -196,40 +144,18 @@ same_names kind s [] = refl
 same_names kind s (t ∷ ts) =
     ap (λ (l : List ℕ). cond (eqb t.kind kind) (t.name.0 ∷ l) l) (same_names kind s ts)
 
-module _ (names s : List ℕ) (t : Titles) where
-  kind-differ : (kind : ℕ) {b : Bool} → b ≡ distinct (names_by kind (first_entries [] t.list t.count))
-      → b ≡ distinct (names_by kind (first_entries s t.list t.count))
-  unfolding first_entries
-  kind-differ kind e = e ∙ ap distinct (sym (same_names kind s (take t.count t.list)))
-
-  module _ {a : Bool} (e : a ≡ each_rule names (first_entries s t.list t.count)) where
-    pub rule-broken : not a ≡ true → false ≡ entries_rule names (first_entries s t.list t.count)
-    unfolding entries_rule
-    rule-broken h = simp (sym e ∙ not-true a h)
-
-    module _ (h : not a ≡ false) {b : Bool} (f : b ≡ distinct (names_by 0 (first_entries [] t.list t.count))) where
-      pub rule-twice : not b ≡ true → false ≡ entries_rule names (first_entries s t.list t.count)
-      unfolding entries_rule
-      rule-twice g = simp (sym (kind-differ 0 f) ∙ not-true b g, and-false)
-
-      pub rule-kept : {c : Bool} → not b ≡ false → c ≡ distinct (names_by 1 (first_entries [] t.list t.count))
-          → c ≡ entries_rule names (first_entries s t.list t.count)
-      unfolding entries_rule
-      rule-kept g k = kind-differ 1 k ∙ sym (simp (sym e ∙ not-false a h, sym (kind-differ 0 f) ∙ not-false b g))
-
-pub ruleset ruling = (rule-broken, rule-twice, rule-kept)
+pub rule_three : (names s : List ℕ) (list : List Title)
+    → entries_rule names (map (entry_in s) list)
+    ≡ (each_rule names (map (entry_in s) list) && distinct (names_by 0 (map (entry_in []) list)) && distinct (names_by 1 (map (entry_in []) list)))
+unfolding entries_rule
+rule_three names s list =
+    λ i. each_rule names (map (entry_in s) list) && distinct (same_names 0 s list i) && distinct (same_names 1 s list i)
 
 -- names that are those of cues
-pub rule-for-cues : (c : Cues) (n : ℕ) (names : List ℕ) {r : Bool} (es : List Entry) → n ≡ held c.count → names ≡ map name_of c.list
+pub rule_for_cues : (c : Cues) {n : ℕ} {names : List ℕ} {r : Bool} (es : List Entry) → n ≡ held c.count → names ≡ map name_of c.list
     → r ≡ entries_rule (take n names) es → r ≡ entries_rule (names_in c) es
 unfolding names_in
-rule-for-cues c n names es e f g = g ∙ (λ i. entries_rule (take (e i) (f i)) es)
+rule_for_cues c es e f g = g ∙ (λ i. entries_rule (take (e i) (f i)) es)
 
 pub none_made : {list : List Title} → list ≡ replicate 128 no_title → record { count = 0; list = list } ≡ no_titles
 none_made e = ap (λ (l : List Title). record { count = 0; list = l }) e
-
-pub unformed-made : {t : Titles} → t ≡ no_titles → ◌≡◌ {A = Found} (record { form = false; titles = t }) (record { form = false; titles = no_titles })
-unformed-made e = ap (λ (t : Titles). record { form = false; titles = t }) e
-
-pub invalid-made : {t : Titles} → t ≡ no_titles → ◌≡◌ {A = ListRead} (record { valid = false; titles = t }) (record { valid = false; titles = no_titles })
-invalid-made e = ap (λ (t : Titles). record { valid = false; titles = t }) e

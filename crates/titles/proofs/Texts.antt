@@ -4,12 +4,13 @@ use mathlib.Core.Bool.{true, false, ◌&&◌}
 use mathlib.Core.List.{List, [], ◌∷◌, ◌++◌, map, append_assoc}
 use Prim.Native.Nat.{ℕ, zero, suc, ◌+◌, ◌-◌, ◌*◌, ◌≤◌, ◌<◌}
 use native.Mathlib.Omega.{arith}
-use lib.Dec.{leb, eqb}
-use lib.ListN.{length, take, drop, get_or, set, replicate, length-append, length-replicate, drop_of_length-le, replicate-append-replicate, get_or-append}
-use lib.Seq.{length-take-le, get_or-take, take-add, take_at, drop_at, drop-drop}
+use lib.Dec.{ltb, leb, eqb}
+use lib.ListN.{length, take, drop, get_or, set, replicate, length-append, length-replicate, drop_of_length-le, get_or-append}
+use Rattle.std.proofs.lemmas.List.{drop-replicate, length-take-le, get_or-take}
+use lib.Seq.{take-add, take_at, drop_at, drop-drop}
 use mir.Syntax.{w32}
 use mir.Val.{Fits}
-use borrow.Author.Tests.{eqb-true, leb-true, eq-eqb, ne_eqb, le-leb, lt-leb}
+use borrow.Author.Tests.{ltb-true, ltb-false, eqb-true, leb-true, eq-eqb, ne_eqb, le-leb, lt-leb}
 use Rattle.little.specs.Writing.{front}
 use Rattle.little.proofs.Filling.{Filled, filled-store, filled-all, put_front, part-long, drop-next}
 use Rattle.lists.proofs.Laws.{and_both}
@@ -18,33 +19,20 @@ use Rattle.titles.specs.declared.Title.{Title}
 use Rattle.titles.specs.declared.Titles.{Titles}
 use Rattle.titles.specs.Titles.{Entry, no_entry, entry_in, first_entries, entries_of, text_of, texts_of, placed_from, no_title, table_of, table_for, moved_to, moved_in_turn, end_of, texts_end}
 use Rattle.titles.specs.Writing.{texts_in_row}
+use Rattle.titles.proofs.Entries.{there}
 use Rattle.titles.proofs.Pouring.{Poured, pour-begins, pour-ends}
 
 -- ---- put from the start of a buffer
-module _ {s : List ℕ} {list : List Title} {n : ℕ} where
-  pub texts-begin : {d : List ℕ} → length list ≡ 128 → n ≤ 128 → length (texts_of (first_entries s list n)) ≤ length d
-      → Poured text_of s list n 0 0 0 d d
+module _ {s : List ℕ} {list : List Title} where
+  pub texts-begin : {d : List ℕ} → length (texts_of (map (entry_in s) list)) ≤ length d → Poured text_of s list 0 0 0 d d
   unfolding texts_of
-  texts-begin h k r = pour-begins h k (omega arith)
+  texts-begin r = pour-begins (omega arith)
 
-  pub texts-put : {i at : ℕ} {d d₀ : List ℕ} → Poured text_of s list n i 0 at d d₀ → n ≤ i → d ≡ front (texts_of (first_entries s list n)) d₀
+  pub texts-put : {i at : ℕ} {d d₀ : List ℕ} → Poured text_of s list i 0 at d d₀ → length list ≤ i → d ≡ front (texts_of (map (entry_in s) list)) d₀
   unfolding texts_of
   texts-put w h = put_front (pour-ends w h)
 
 pub ruleset texting = (texts-begin, texts-put)
-
--- ---- the first n titles of a list, from one of them on
-module _ (list : List Title) (n i : ℕ) (long : length list ≡ 128) (few : n ≤ 128) where
-  first-long : length (take n list) ≡ n
-  first-long = length-take-le n list (omega arith)
-
-  first_next : i < n → drop i (take n list) ≡ get_or list i no_title ∷ drop (i + 1) (take n list)
-  first_next h =
-      drop-next (take n list) i no_title (omega (arith, first-long))
-      ∙ ap (λ (t : Title). t ∷ drop (i + 1) (take n list)) (get_or-take n list i no_title h)
-
-  first-over : n ≤ i → drop i (take n list) ≡ []
-  first-over h = drop_of_length-le (take n list) {i = i} (omega (arith, first-long))
 
 -- ---- titles in turn: i are placed in the room for them, and the text of the next is to start at a place
 turn-long : (at : ℕ) (ts : List Title) → length (moved_in_turn at ts) ≡ length ts
@@ -52,32 +40,27 @@ unfolding moved_in_turn
 turn-long at [] = refl
 turn-long at (t ∷ ts) = ap suc (turn-long (at + (t.length.0 + 1)) ts)
 
-drop-replicate : {A : Type 0} (n m : ℕ) (z : A) → n ≤ m → drop n (replicate m z) ≡ replicate (m - n) z
-drop-replicate n m z h =
-    let e : n + (m - n) ≡ m = omega arith in
-    ap (λ (k : ℕ). drop n (replicate k z)) (sym e)
-    ∙ ap (drop n) (sym (replicate-append-replicate n (m - n) z))
-    ∙ drop_at (replicate n z) (replicate (m - n) z) n (length-replicate n z)
-
-pub record Turned (list : List Title) (n i at : ℕ) (made : List Title) : Type 0 where
-  pub long : length list ≡ 128
-  pub few : n ≤ 128
-  pub upto : i ≤ n
-  pub short : (k : ℕ) → k < n → (get_or list k no_title).length.0 ≤ 255
+pub record Turned (list : List Title) (i at : ℕ) (made : List Title) : Type 0 where
+  pub few : length list ≤ 128
+  pub upto : i ≤ length list
+  pub short : (k : ℕ) → k < length list → (get_or list k no_title).length.0 ≤ 255
   pub small : at ≤ 256 * i
-  pub filled : Filled (moved_in_turn 0 (take n list)) (moved_in_turn at (drop i (take n list))) i made (replicate 128 no_title)
+  pub filled : Filled (moved_in_turn 0 list) (moved_in_turn at (drop i list)) i made (replicate 128 no_title)
 
-module _ {list : List Title} {n i at : ℕ} {made : List Title} (w : Turned list n i at made) where
-  pub turn-ends : n ≤ i → made ≡ moved_in_turn 0 (take n list) ++ replicate (128 - n) no_title
+module _ {list : List Title} {i at : ℕ} {made : List Title} (w : Turned list i at made) where
+  pub turn-ends : length list ≤ i → made ≡ moved_in_turn 0 list ++ replicate (128 - length list) no_title
   unfolding moved_in_turn front
   turn-ends h =
-      let all : List Title = moved_in_turn 0 (take n list) in
-      let e = first-over list n i w.long w.few h in
+      let all : List Title = moved_in_turn 0 list in
+      let e : drop i list ≡ [] = drop_of_length-le list h in
       filled-all (subst (λ (l : List Title). Filled all (moved_in_turn at l) i made (replicate 128 no_title)) e w.filled)
-      ∙ ap (λ (k : ℕ). all ++ drop k (replicate 128 no_title)) (turn-long 0 (take n list) ∙ first-long list n i w.long w.few)
-      ∙ ap (λ (l : List Title). all ++ l) (drop-replicate n 128 no_title w.few)
+      ∙ ap (λ (k : ℕ). all ++ drop k (replicate 128 no_title)) (turn-long 0 list)
+      ∙ ap (λ (l : List Title). all ++ l) (drop-replicate (length list) 128 no_title)
 
-  module _ (h : i < n) where
+  module _ (h : i < length list) where
+    pub turn-room : i < length made
+    turn-room = omega (arith, w.few, w.filled.long, length-replicate 128 no_title)
+
     module _ (k : ℕ) (b : leb k 256 ≡ true) where
       pub step_fits : Fits w32 ((get_or list i no_title).length.0 + k)
       step_fits = record { fits = omega (arith, leb-true k 256 b, w.short i h) }
@@ -86,59 +69,56 @@ module _ {list : List Title} {n i at : ℕ} {made : List Title} (w : Turned list
       place-fits = record { fits = omega (arith, leb-true k 256 b, w.small, w.few, w.short i h) }
 
     pub turn-next : {x : Title} → x ≡ moved_to at (get_or list i no_title)
-        → Turned list n (i + 1) (at + ((get_or list i no_title).length.0 + 1)) (set made i x)
+        → Turned list (i + 1) (at + ((get_or list i no_title).length.0 + 1)) (set made i x)
     unfolding moved_in_turn
     turn-next {x} e =
         let next : ℕ = at + ((get_or list i no_title).length.0 + 1) in
-        let g = ap (moved_in_turn at) (first_next list n i w.long w.few h) in
+        let g = ap (moved_in_turn at) (drop-next list i no_title h) in
         record {
-          long = w.long;
           few = w.few;
           upto = omega arith;
           short = w.short;
           small = omega (arith, w.small, w.short i h);
           filled =
               filled-store w.filled
-              (g ∙ ap (λ (t : Title). t ∷ moved_in_turn next (drop (i + 1) (take n list))) (sym e))
-              (omega (arith, w.few, w.filled.long, length-replicate 128 no_title))
+              (g ∙ ap (λ (t : Title). t ∷ moved_in_turn next (drop (i + 1) list)) (sym e))
+              turn-room
               refl;
         }
 
-pub ruleset turning = (turn-ends, step_fits, place-fits, turn-next)
+pub ruleset turning = (turn-ends, turn-room, step_fits, place-fits, turn-next)
 
 -- ---- titles tested for a row: i are in it, and the text of the next is to start at a place
-pub record Rowed (room : ℕ) (list : List Title) (n i at : ℕ) : Type 0 where
-  pub long : length list ≡ 128
-  pub few : n ≤ 128
-  pub upto : i ≤ n
+pub record Rowed (room : ℕ) (list : List Title) (i at : ℕ) : Type 0 where
+  pub few : length list ≤ 128
+  pub upto : i ≤ length list
   pub small : at ≤ 4294967296 * i
-  pub same : texts_in_row room at (drop i (take n list)) ≡ texts_in_row room 0 (take n list)
+  pub same : texts_in_row room at (drop i list) ≡ texts_in_row room 0 list
 
-module _ {room : ℕ} {list : List Title} {n i at : ℕ} (w : Rowed room list n i at) where
-  pub row_ends : n ≤ i → true ≡ texts_in_row room 0 (take n list)
+module _ {room : ℕ} {list : List Title} {i at : ℕ} (w : Rowed room list i at) where
+  pub row_ends : length list ≤ i → true ≡ texts_in_row room 0 list
   unfolding texts_in_row
-  row_ends h = sym (ap (texts_in_row room at) (first-over list n i w.long w.few h)) ∙ w.same
+  row_ends h = sym (ap (texts_in_row room at) (drop_of_length-le list h)) ∙ w.same
 
-  module _ (h : i < n) where
+  module _ (h : i < length list) where
     abbrev next : ℕ
     next = at + ((get_or list i no_title).length.0 + 1)
 
-    left : (eqb (get_or list i no_title).start.0 at && leb next room && texts_in_row room next (drop (i + 1) (take n list))) ≡ texts_in_row room 0 (take n list)
+    left : (eqb (get_or list i no_title).start.0 at && leb next room && texts_in_row room next (drop (i + 1) list)) ≡ texts_in_row room 0 list
     unfolding texts_in_row
-    left = sym (ap (texts_in_row room at) (first_next list n i w.long w.few h)) ∙ w.same
+    left = sym (ap (texts_in_row room at) (drop-next list i no_title h)) ∙ w.same
 
-    pub row-elsewhere : ((get_or list i no_title).start.0 ≡ at → ⊥) → false ≡ texts_in_row room 0 (take n list)
+    pub row-elsewhere : ((get_or list i no_title).start.0 ≡ at → ⊥) → false ≡ texts_in_row room 0 list
     row-elsewhere e = simp (← left, ne_eqb (get_or list i no_title).start.0 at e)
 
     module _ (e : (get_or list i no_title).start.0 ≡ at) where
-      pub row-past : room < at + ((get_or list i no_title).length.0 + 1) → false ≡ texts_in_row room 0 (take n list)
+      pub row-past : room < at + ((get_or list i no_title).length.0 + 1) → false ≡ texts_in_row room 0 list
       row-past l = simp (← left, eq-eqb (get_or list i no_title).start.0 at e, lt-leb next room l)
 
       pub row_next : at + ((get_or list i no_title).length.0 + 1) ≤ room → Fits w32 (get_or list i no_title).length.0
-          → Rowed room list n (i + 1) (at + ((get_or list i no_title).length.0 + 1))
+          → Rowed room list (i + 1) (at + ((get_or list i no_title).length.0 + 1))
       row_next l f =
           record {
-            long = w.long;
             few = w.few;
             upto = omega arith;
             small = omega (arith, w.small, f.fits);
@@ -157,7 +137,24 @@ module _ (t : Titles) where
   unfolding texts_end
   ends_last h = simp (le-leb 1 t.count h)
 
-pub ruleset ending = (ends-none, ends_last)
+-- of the titles that it counts
+module _ (t : Titles) (long : length t.list ≡ 128) (few : t.count ≤ 128) {ts : List Title} (q : ts ≡ take t.count t.list) where
+  counted : length ts ≡ t.count
+  counted = ap length q ∙ length-take-le t.count t.list (omega arith)
+
+  pub end-none : false ≡ ltb 0 (length ts) → 0 ≡ texts_end t
+  end-none e = let h = ltb-false 0 (length ts) (sym e) in ends-none t (omega (arith, counted))
+
+  pub end-last : {x : Title} → true ≡ ltb 0 (length ts) → x ≡ get_or ts (length ts - 1) x → end_of x ≡ texts_end t
+  end-last {x} e f =
+      let h : 0 < length ts = ltb-true 0 (length ts) (sym e) in
+      let n : length ts - 1 ≡ t.count - 1 = omega (arith, counted) in
+      let g : x ≡ get_or t.list (t.count - 1) no_title =
+      f
+      ∙ there ts (length ts - 1) x no_title (omega arith)
+      ∙ (λ i. get_or (q i) (n i) no_title)
+      ∙ get_or-take t.count t.list (t.count - 1) no_title (omega (arith, counted)) in
+      ap end_of g ∙ ends_last t (omega (arith, counted))
 
 -- ---- titles whose texts are as long as they say: moved in turn, they are the titles for what they say
 -- the title for an entry whose text starts at a place

@@ -5,63 +5,38 @@ use mathlib.Core.Bool.{Bool, true, false, not, cond, ◌&&◌, ◌||◌, and-fal
 use mathlib.Core.List.{List, [], ◌∷◌, ◌++◌, map, append-nil, map-append}
 use Prim.Native.Nat.{ℕ, zero, suc, ◌+◌, ◌-◌, ◌≤◌, ◌<◌}
 use native.Mathlib.Omega.{arith}
+use Rattle.std.proofs.Common.{Option, None, Some, is_some}
 use lib.Dec.{ltb, leb}
 use lib.ListN.{length, take, drop, get_or, set, replicate, length-append, length-map, length-drop, length-replicate, drop_of_length-le}
 use mir.Syntax.{w64}
 use mir.Val.{Fits}
 use lib.Seq.{set_at, append_snoc, drop-drop, take_all, take_at, get_or-take, length-take-le}
-use borrow.Author.Tests.{lt-ltb, le-ltb, lt-leb, le-leb, leb-true, ltb-false, not-true, not-false}
+use borrow.Author.Tests.{lt-ltb, le-ltb, lt-leb, le-leb, leb-true, ltb-true, ltb-false, not-true, not-false}
 use Rattle.little.specs.Numbers.{number_in, number_at}
 use Rattle.lists.proofs.Laws.{and_both}
-use Rattle.codes.specs.Codes.{is_at}
-use Rattle.codes.specs.declared.Code.TheVariants.{Label, Note}
 use Rattle.units.specs.Refusals.{file_limit}
 use Rattle.riff.specs.declared.Pad.{Pad}
 use Rattle.riff.specs.Chunks.{size_at, end_at, pad_after, pad_size, pad_at, next_at, passes}
 use Rattle.riff.proofs.Padding.{next_place}
 use Rattle.titles.specs.declared.Title.{Title}
 use Rattle.titles.specs.declared.Front.{Front}
-use Rattle.titles.specs.declared.Found.{Found}
-use Rattle.titles.specs.Titles.{Entry, entry_in, first_entries, no_title, no_titles}
-use Rattle.titles.specs.Lists.{front_kind, front_entry, front_rest, with_entry, entries_by, entries_in, pad_fits, size_fits, front_fits, tiles_by, tiles, list_form, SaysAt, FoundIn, no_front, front_of}
+use Rattle.titles.specs.Titles.{Entry, entry_in, first_entries, no_title}
+use Rattle.titles.specs.Lists.{front_kind, front_entry, front_rest, with_entry, entries_by, entries_in, title_kind, pad_fits, size_fits, front_fits, tiles_by, tiles, list_form, SaysAt, FoundIn, front_of}
 
--- ---- the chunk at the front
-module _ (l : List ℕ) where
-  pub kind-label : {a : Bool} → a ≡ is_at l 0 Label → a ≡ true → 0 ≡ front_kind l
-  unfolding front_kind
-  kind-label e t = simp (sym e ∙ t)
+-- ---- the size of a title
+some-kind : (l : List ℕ) (b : Bool) → cond (is_some (title_kind l)) b true ≡ cond (ltb (front_kind l) 2) b true
+some-kind l b = by (ltb (front_kind l) 2)
+  where
+    by : (x : Bool) → cond (is_some (cond x (Some (front_kind l)) None)) b true ≡ cond x b true
+    by true = refl
+    by false = refl
 
-  module _ {a : Bool} (e : a ≡ is_at l 0 Label) (m : a ≡ false) where
-    pub kind-note : {b : Bool} → b ≡ is_at l 0 Note → b ≡ true → 1 ≡ front_kind l
-    unfolding front_kind
-    kind-note f t = simp (sym e ∙ m, sym f ∙ t)
-
-    pub kind-other : {b : Bool} → b ≡ is_at l 0 Note → b ≡ false → 2 ≡ front_kind l
-    unfolding front_kind
-    kind-other f t = simp (sym e ∙ m, sym f ∙ t)
-
-module _ (kind size : ℕ) where
-  pub size-any : 2 ≤ kind → true ≡ size_fits kind size
-  unfolding size_fits
-  size-any h = simp (le-ltb kind 2 h)
-
-  module _ (h : kind < 2) where
-    pub size_small : {k : ℕ} → size < k → leb k 5 ≡ true → false ≡ size_fits kind size
-    unfolding size_fits
-    size_small {k} g b = let l : size < 5 = omega (arith, leb-true k 5 b) in simp (lt-ltb kind 2 h, lt-leb 5 size l)
-
-    pub size-most : 5 ≤ size → leb size 260 ≡ size_fits kind size
-    unfolding size_fits
-    size-most g = simp (lt-ltb kind 2 h, le-leb 5 size g)
-
-    -- what a title's size is, where it fits
-    pub title-size : size_fits kind size ≡ true → (5 ≤ size) × (size ≤ 260)
-    unfolding size_fits
-    title-size e =
-        let b = and_both (leb 5 size) (leb size 260) (sym (simp (lt-ltb kind 2 h)) ∙ e) in
-        (leb-true 5 size b.0, leb-true size 260 b.1)
-
-pub ruleset fronts = (kind-label, kind-note, kind-other, size-any, size_small, size-most)
+-- what it is, where it fits
+pub title-size : (kind size : ℕ) → kind < 2 → size_fits kind size ≡ true → (5 ≤ size) × (size ≤ 260)
+unfolding size_fits
+title-size kind size h e =
+    let b = and_both (leb 5 size) (leb size 260) (sym (simp (lt-ltb kind 2 h)) ∙ e) in
+    (leb-true 5 size b.0, leb-true size 260 b.1)
 
 -- a chunk that does not pass the end has its data before it
 pub within : (l : List ℕ) → passes l 0 ≡ false → 8 + size_at l 0 ≤ length l
@@ -77,16 +52,16 @@ next-within l e = omega (arith, next_place (size_at l 0) (end_at l 0) (length l)
 
 -- ---- the chunk at the front fits, or does not
 module _ (lost : Bool) (l : List ℕ) where
-  unfit : {x : Front} → front_fits lost l ≡ false → x ≡ no_front → x ≡ front_of lost l
+  unfit : front_fits lost l ≡ false → None ≡ front_of lost l
   unfolding front_of
-  unfit e f = f ∙ simp e
+  unfit e = simp e
 
-  pub front-short : {x : Front} → length l < 8 → x ≡ no_front → x ≡ front_of lost l
+  pub front-short : length l < 8 → None ≡ front_of lost l
   unfolding front_fits
   front-short h = unfit (simp (lt-ltb (length l) 8 h))
 
   module _ (h : 8 ≤ length l) {n : ℕ} (a : n ≡ size_at l 0) where
-    pub front_cut : {x : Front} → length l < 8 + n → x ≡ no_front → x ≡ front_of lost l
+    pub front_cut : length l < 8 + n → None ≡ front_of lost l
     unfolding front_fits
     front_cut g = unfit (simp (le-ltb (length l) 8 h, lt-ltb (length l) (end_at l 0) (omega arith)))
 
@@ -97,20 +72,23 @@ module _ (lost : Bool) (l : List ℕ) where
       pad-so : pad_fits lost (pad_at l 0) ≡ b
       pad-so = sym (f ∙ ap (pad_fits lost) q ∙ ap (λ (k : ℕ). pad_fits lost (pad_after k (8 + k) (length l))) a)
 
-      pub front-unpadded : {x : Front} → not b ≡ true → x ≡ no_front → x ≡ front_of lost l
+      pub front-unpadded : not b ≡ true → None ≡ front_of lost l
       unfolding front_fits
       front-unpadded e = unfit (simp (pad-so ∙ not-true b e, and-false))
 
-      module _ (e : not b ≡ false) {k : ℕ} (u : k ≡ front_kind l) {d : Bool} (s : d ≡ size_fits k n) where
+      module _ (e : not b ≡ false) {k : Option ℕ} (u : k ≡ title_kind l) {d : Bool} (s : d ≡ cond (is_some k) (leb 5 n && leb n 260) true) where
         size-so : size_fits (front_kind l) (size_at l 0) ≡ d
-        size-so = sym (s ∙ (λ i. size_fits (u i) (a i)))
+        unfolding size_fits
+        size-so =
+            sym (some-kind l (leb 5 (size_at l 0) && leb (size_at l 0) 260))
+            ∙ sym (s ∙ (λ i. cond (is_some (u i)) (leb 5 (a i) && leb (a i) 260) true))
 
-        pub front-missized : {x : Front} → not d ≡ true → x ≡ no_front → x ≡ front_of lost l
+        pub front-missized : not d ≡ true → None ≡ front_of lost l
         unfolding front_fits
         front-missized r = unfit (simp (size-so ∙ not-true d r, and-false))
 
         pub front_fits_lem : {m : ℕ} → not d ≡ false → m ≡ pad_size p
-            → record { fits = true; kind = k; size = n; next = 8 + n + m } ≡ front_of lost l
+            → Some (record { kind = k; size = n; next = 8 + n + m }) ≡ front_of lost l
         unfolding front_fits front_of
         front_fits_lem r t =
             let v : front_fits lost l ≡ true = simp (whole, pad-so ∙ not-false b e, size-so ∙ not-false d r) in
@@ -143,18 +121,23 @@ module _ (lost : Bool) (l : List ℕ) where
       by true b c f = let z : ◌≡◌ {A = ℕ} 0 1 = cc in absurd (omega arith)
       by false b c f = (refl, (and_both b c f).1)
 
-  module _ {c : Front} (a : c ≡ front_of lost l) where
-    told-fits : front_fits lost l ≡ c.fits
-    unfolding front_of
-    told-fits = by (front_fits lost l) ∙ sym (ap (λ (y : Front). y.fits) a)
-      where
-        by : (b : Bool) → b ≡ (cond b (record { fits = true; kind = front_kind l; size = size_at l 0; next = next_at l 0 }) no_front).fits
-        by true = refl
-        by false = refl
+  told-none : None ≡ front_of lost l → front_fits lost l ≡ false
+  unfolding front_of
+  told-none a = by (front_fits lost l) a
+    where
+      by : (b : Bool) → ◌≡◌ {A = Option Front} None (cond b (Some (record { kind = title_kind l; size = size_at l 0; next = next_at l 0 })) None) → b ≡ false
+      by true f = let z : ◌≡◌ {A = ℕ} 0 1 = cc in absurd (omega arith)
+      by false f = refl
 
-    told-front : front_fits lost l ≡ true → c ≡ record { fits = true; kind = front_kind l; size = size_at l 0; next = next_at l 0 }
-    unfolding front_of
-    told-front e = a ∙ simp e
+  told-some : {c : Front} → Some c ≡ front_of lost l
+      → (front_fits lost l ≡ true) × (c ≡ record { kind = title_kind l; size = size_at l 0; next = next_at l 0 })
+  unfolding front_of
+  told-some {c} a = by (front_fits lost l) a
+    where
+      by : (b : Bool) → ◌≡◌ {A = Option Front} (Some c) (cond b (Some (record { kind = title_kind l; size = size_at l 0; next = next_at l 0 })) None)
+          → (b ≡ true) × (c ≡ record { kind = title_kind l; size = size_at l 0; next = next_at l 0 })
+      by true f = (refl, cc)
+      by false f = let z : ◌≡◌ {A = ℕ} 0 1 = cc in absurd (omega arith)
 
 -- nothing is left
 pub entries_none : (n : ℕ) → entries_by n [] ≡ []
@@ -195,15 +178,6 @@ find-begins {l = l} h e =
       long = λ i g. absurd (omega arith);
       held = e;
     }
-
--- of a list without its form nothing is told
-pub nothing-found : {lost : Bool} {l : List ℕ} {r : Found} → r ≡ record { form = false; titles = no_titles } → false ≡ list_form lost l → FoundIn lost l r
-nothing-found {lost} {l} {r} e f =
-    let g : r.form ≡ false = ap (λ (x : Found). x.form) e in
-    record { form = g ∙ f; stands = λ t. absurd (clash (sym t ∙ g)) }
-  where
-    clash : ◌≡◌ {A = Bool} true false → ⊥
-    clash c = subst (λ (x : Bool). cond x (Unit {0}) ⊥) c tt
 
 -- what each of some elements keeps and one behind them, all keep
 last-too : {A : Type 0} (P : A → Type 0) (xs : List A) (y z : A) (n : ℕ) → length xs ≡ n → ((i : ℕ) → i < n → P (get_or xs i z)) → P y
@@ -252,13 +226,12 @@ module _ {lost : Bool} {l : List ℕ} {at n : ℕ} {titles : List Title} (w : Fi
     title-there : (i : ℕ) → i < n → get_or titles i no_title ≡ get_or w.before i no_title
     title-there i g = sym (get_or-take n titles i no_title g) ∙ ap (λ (ts : List Title). get_or ts i no_title) first-ones
 
-    pub find-ends : FoundIn lost l (record { form = true; titles = record { count = n; list = titles } })
+    pub find-ends : FoundIn lost l (Some (record { count = n; list = titles }))
     unfolding first_entries
     find-ends =
         record {
-          form = formed;
+          form = sym formed;
           stands =
-              λ t.
               record {
                 room = ap length w.held ∙ length-append w.before _ ∙ omega (arith, w.many, w.few, length-replicate (128 - n) no_title);
                 many = sym found-many;
@@ -268,35 +241,51 @@ module _ {lost : Bool} {l : List ℕ} {at n : ℕ} {titles : List Title} (w : Fi
         }
 
   -- a chunk is at the front of what is left
-  module _ (h : at < length l) {rest : List ℕ} (x : rest ≡ drop at l) {c : Front} (a : c ≡ front_of lost rest) where
+  module _ (h : at < length l) {rest : List ℕ} (x : rest ≡ drop at l) where
     some : 0 < length rest
     some = omega (arith, ap length x, length-drop at l)
 
     tiled-rest : (t : ℕ) → tiles_by lost t (drop at l) ≡ tiles lost l → tiles_by lost t rest ≡ tiles lost l
     tiled-rest t e = ap (tiles_by lost t) x ∙ e
 
-    pub find-unfit : not c.fits ≡ true → false ≡ list_form lost l
+    pub find-unfit : None ≡ front_of lost rest → list_form lost l ≡ false
     unfolding list_form
-    find-unfit g = by w.turns w.enough w.tiled
+    find-unfit a = by w.turns w.enough w.tiled
       where
-        by : (t : ℕ) → length l ≤ at + t → tiles_by lost t (drop at l) ≡ tiles lost l → false ≡ (tiles lost l && leb (length (entries_in l)) 128)
+        by : (t : ℕ) → length l ≤ at + t → tiles_by lost t (drop at l) ≡ tiles lost l → (tiles lost l && leb (length (entries_in l)) 128) ≡ false
         by zero o e = absurd (omega arith)
         by (suc t) o e =
-            ap (λ (b : Bool). b && leb (length (entries_in l)) 128)
-            (sym (tiles-unfit rest lost t some (told-fits lost rest a ∙ not-true c.fits g)) ∙ tiled-rest (suc t) e)
+            sym
+            (ap (λ (b : Bool). b && leb (length (entries_in l)) 128)
+            (sym (tiles-unfit rest lost t some (told-none lost rest a)) ∙ tiled-rest (suc t) e))
 
-    module _ (g : not c.fits ≡ false) where
+    module _ {c : Front} (a : Some c ≡ front_of lost rest) where
       fit : front_fits lost rest ≡ true
-      fit = told-fits lost rest a ∙ not-false c.fits g
+      fit = (told-some lost rest a).0
 
-      told : c ≡ record { fits = true; kind = front_kind rest; size = size_at rest 0; next = next_at rest 0 }
-      told = told-front lost rest a fit
+      told : c ≡ record { kind = title_kind rest; size = size_at rest 0; next = next_at rest 0 }
+      told = (told-some lost rest a).1
 
       here : passes rest 0 ≡ false
       here = (fits_all lost rest fit).0
 
-      kind-told : c.kind ≡ front_kind rest
+      kind-told : c.kind ≡ title_kind rest
       kind-told = ap (λ (y : Front). y.kind) told
+
+      -- a title, or none
+      kind-some : {k : ℕ} → c.kind ≡ Some k → (front_kind rest ≡ k) × (k < 2)
+      kind-some {k} e = by (ltb (front_kind rest) 2) refl (sym kind-told ∙ e)
+        where
+          by : (b : Bool) → ltb (front_kind rest) 2 ≡ b → cond b (Some (front_kind rest)) None ≡ Some k → (front_kind rest ≡ k) × (k < 2)
+          by true t f = let g : front_kind rest ≡ k = cc in (g, omega (arith, ltb-true (front_kind rest) 2 t))
+          by false t f = let z : ◌≡◌ {A = ℕ} 0 1 = cc in absurd (omega arith)
+
+      kind-none : c.kind ≡ None → 2 ≤ front_kind rest
+      kind-none e = by (ltb (front_kind rest) 2) refl (sym kind-told ∙ e)
+        where
+          by : (b : Bool) → ltb (front_kind rest) 2 ≡ b → cond b (Some (front_kind rest)) None ≡ None → 2 ≤ front_kind rest
+          by true t f = let z : ◌≡◌ {A = ℕ} 0 1 = cc in absurd (omega arith)
+          by false t f = ltb-false (front_kind rest) 2 t
 
       next-told : c.next ≡ next_at rest 0
       next-told = ap (λ (y : Front). y.next) told
@@ -316,13 +305,13 @@ module _ {lost : Bool} {l : List ℕ} {at n : ℕ} {titles : List Title} (w : Fi
       tiled-next : (t : ℕ) → tiles_by lost (suc t) (drop at l) ≡ tiles lost l → tiles_by lost t (drop (at + c.next) l) ≡ tiles lost l
       tiled-next t q = ap (tiles_by lost t) (sym next-rest) ∙ sym (tiles-one rest lost t some fit) ∙ tiled-rest (suc t) q
 
-      entries_next : (t : ℕ) → entries_by (suc t) (drop at l) ≡ with_entry c.kind (front_entry rest) (entries_by t (drop (at + c.next) l))
+      entries_next : (t : ℕ) → entries_by (suc t) (drop at l) ≡ with_entry (front_kind rest) (front_entry rest) (entries_by t (drop (at + c.next) l))
       entries_next t =
           ap (entries_by (suc t)) (sym x)
           ∙ entries-one rest t here
-          ∙ (λ i. with_entry (sym kind-told i) (front_entry rest) (entries_by t (next-rest i)))
+          ∙ (λ i. with_entry (front_kind rest) (front_entry rest) (entries_by t (next-rest i)))
 
-      pub find-other : 2 ≤ c.kind → Finding lost l (at + c.next) n titles
+      pub find-other : c.kind ≡ None → Finding lost l (at + c.next) n titles
       find-other o = by w.turns w.enough w.tiled w.same
         where
           by : (t : ℕ) → length l ≤ at + t → tiles_by lost t (drop at l) ≡ tiles lost l → map (entry_in l) w.before ++ entries_by t (drop at l) ≡ entries_in l
@@ -337,30 +326,33 @@ module _ {lost : Bool} {l : List ℕ} {at n : ℕ} {titles : List Title} (w : Fi
                 tiled = tiled-next t q;
                 before = w.before;
                 many = w.many;
-                same = ap (λ (es : List Entry). map (entry_in l) w.before ++ es) (sym (entries_next t ∙ simp (le-ltb c.kind 2 o))) ∙ m;
+                same = ap (λ (es : List Entry). map (entry_in l) w.before ++ es) (sym (entries_next t ∙ simp (le-ltb (front_kind rest) 2 (kind-none o)))) ∙ m;
                 long = w.long;
                 held = w.held;
               }
 
-      module _ (o : c.kind < 2) where
-        one_found : (t : ℕ) → entries_by (suc t) (drop at l) ≡ front_entry rest ∷ entries_by t (drop (at + c.next) l)
-        one_found t = entries_next t ∙ simp (lt-ltb c.kind 2 o)
+      module _ {k : ℕ} (o : c.kind ≡ Some k) where
+        titled : front_kind rest < 2
+        titled = omega (arith, (kind-some o).0, (kind-some o).1)
 
-        pub find-many : {k : ℕ} → k ≤ n → leb 128 k ≡ true → false ≡ list_form lost l
+        one_found : (t : ℕ) → entries_by (suc t) (drop at l) ≡ front_entry rest ∷ entries_by t (drop (at + c.next) l)
+        one_found t = entries_next t ∙ simp (lt-ltb (front_kind rest) 2 titled)
+
+        pub find-many : {m : ℕ} → m ≤ n → leb 128 m ≡ true → list_form lost l ≡ false
         unfolding list_form
-        find-many {k} q b = by w.turns w.enough w.same
+        find-many {m} q b = by w.turns w.enough w.same
           where
             by : (t : ℕ) → length l ≤ at + t → map (entry_in l) w.before ++ entries_by t (drop at l) ≡ entries_in l
-                → false ≡ (tiles lost l && leb (length (entries_in l)) 128)
-            by zero i m = absurd (omega arith)
-            by (suc t) i m =
+                → (tiles lost l && leb (length (entries_in l)) 128) ≡ false
+            by zero i e = absurd (omega arith)
+            by (suc t) i e =
                 let c = length-append (map (entry_in l) w.before) (entries_by (suc t) (drop at l)) in
                 let d : 128 < length (entries_in l) =
                 omega (
                   arith,
-                  leb-true 128 k b,
+                  leb-true 128 m b,
                   c,
-                  ap length m,
+                  ap length e,
                   ap length (one_found t),
                   length-map w.before (entry_in l),
                   w.many,
@@ -371,14 +363,14 @@ module _ {lost : Bool} {l : List ℕ} {at n : ℕ} {titles : List Title} (w : Fi
         size-told : c.size ≡ size_at rest 0
         size-told = ap (λ (y : Front). y.size) told
 
-        pub find-kind : c.kind ≡ front_kind (drop at l)
-        find-kind = kind-told ∙ ap front_kind x
+        pub find-kind : k ≡ front_kind (drop at l)
+        find-kind = sym (kind-some o).0 ∙ ap front_kind x
 
         pub find-size : c.size ≡ size_at (drop at l) 0
         find-size = size-told ∙ ap (λ (r : List ℕ). size_at r 0) x
 
         pub find-least : 5 ≤ c.size
-        find-least = omega (arith, size-told, (title-size (front_kind rest) (size_at rest 0) (omega (arith, kind-told)) (fits_all lost rest fit).1).0)
+        find-least = omega (arith, size-told, (title-size (front_kind rest) (size_at rest 0) titled (fits_all lost rest fit).1).0)
 
         pub find-room : at + 8 + c.size ≤ length l
         find-room = omega (arith, size-told, within rest here, ap length x, length-drop at l)
@@ -421,7 +413,6 @@ module _ {lost : Bool} {l : List ℕ} {at n : ℕ} {titles : List Title} (w : Fi
 
 pub ruleset finding = (
   find-begins,
-  nothing-found,
   find-ends,
   find-unfit,
   find-fits,
@@ -452,3 +443,5 @@ module _ (l : List ℕ) (at : ℕ) {k n size : ℕ} (e : k ≡ front_kind (drop 
 -- what is left is all that there is
 pub left-all : (l : List ℕ) (at : ℕ) → take (length l - at) (drop at l) ≡ drop at l
 left-all l at = take_all (length l - at) (drop at l) (omega (arith, length-drop at l))
+
+pub ruleset title_ones = (title-said)

@@ -1,6 +1,6 @@
 -- The list `adtl` of a file: the titles in it, its form, and what is read of it. The walk over its chunks goes by what is left of the
 -- list: it takes the chunk at the front, and goes on with the rest. Assumes nothing.
-use Rattle.std.specs.Prelude.{ℕ, zero, suc, ◌+◌, ◌-◌, ◌<◌, ◌≡◌, Bool, true, false, not, cond, ◌&&◌, List, [], ◌∷◌, ltb, leb, length, take, drop, get_or}
+use Rattle.std.specs.Prelude.{ℕ, zero, suc, ◌+◌, ◌-◌, ◌<◌, ◌≡◌, Bool, true, false, not, cond, ◌&&◌, List, [], ◌∷◌, ltb, leb, length, take, drop, get_or, Option, None, Some, MatchOption}
 use Rattle.little.specs.Numbers.{number_at}
 use Rattle.codes.specs.Codes.{is_at}
 use Rattle.codes.specs.declared.Code.TheVariants.{Label, Note}
@@ -10,15 +10,17 @@ use Rattle.riff.specs.Chunks.{size_at, pad_at, next_at, passes}
 use Rattle.titles.specs.declared.Title.{Title}
 use Rattle.titles.specs.declared.Titles.{Titles}
 use Rattle.titles.specs.declared.Front.{Front}
-use Rattle.titles.specs.declared.Found.{Found}
-use Rattle.titles.specs.declared.ListRead.{ListRead}
-use Rattle.titles.specs.Titles.{Entry, entry_in, entries_of, entries_rule, no_title, no_titles, table_for}
+use Rattle.titles.specs.Titles.{Entry, entry_in, entries_of, entries_rule, no_title, table_for}
 
 -- ---- the chunk at the front of what is left of a list
 
 -- what it is: `labl` 0, `note` 1, any other 2
 unfoldable pub front_kind : List ℕ → ℕ
 front_kind l = cond (is_at l 0 Label) 0 (cond (is_at l 0 Note) 1 2)
+
+-- the kind of a title, and none of any other chunk
+abbrev pub title_kind : List ℕ → Option ℕ
+title_kind l = cond (ltb (front_kind l) 2) (Some (front_kind l)) None
 
 -- the name of a cue, and behind it the text
 unfoldable pub front_entry : List ℕ → Entry
@@ -78,20 +80,14 @@ list_valid lost l names = list_form lost l && entries_rule names (entries_in l)
 abbrev pub titles_of : List ℕ → Titles
 titles_of l = table_for (entries_in l)
 
--- whether it is valid, and then its titles
-unfoldable pub list_read : Bool → List ℕ → List ℕ → ListRead
-list_read lost l names =
-    cond (list_valid lost l names)
-    (record { valid = true; titles = titles_of l })
-    (record { valid = false; titles = no_titles })
+-- its titles where it is valid
+unfoldable pub list_read : Bool → List ℕ → List ℕ → Option Titles
+list_read lost l names = cond (list_valid lost l names) (Some (titles_of l)) None
 
 -- ---- what the code finds: the chunk at the front, and where the titles stand in the list
 
-abbrev pub no_front : Front
-no_front = record { fits = false; kind = 0; size = 0; next = 0 }
-
-unfoldable pub front_of : Bool → List ℕ → Front
-front_of lost l = cond (front_fits lost l) (record { fits = true; kind = front_kind l; size = size_at l 0; next = next_at l 0 }) no_front
+unfoldable pub front_of : Bool → List ℕ → Option Front
+front_of lost l = cond (front_fits lost l) (Some (record { kind = title_kind l; size = size_at l 0; next = next_at l 0 })) None
 
 -- a title whose text stands in the list, as the chunk at a place says
 pub record SaysAt (l : List ℕ) (at : ℕ) (t : Title) : Type 0 where
@@ -106,6 +102,10 @@ pub record Stands (l : List ℕ) (t : Titles) : Type 0 where
   pub long : (i : ℕ) → i < t.count → length (entry_in l (get_or t.list i no_title)).text ≡ (get_or t.list i no_title).length.0 + 1
 
 -- of a list of that form
-pub record FoundIn (lost : Bool) (l : List ℕ) (r : Found) : Type 0 where
-  pub form : r.form ≡ list_form lost l
-  pub stands : r.form ≡ true → Stands l r.titles
+pub record Formed (lost : Bool) (l : List ℕ) (t : Titles) : Type 0 where
+  pub form : list_form lost l ≡ true
+  pub stands : Stands l t
+
+-- and none of any other
+abbrev pub FoundIn : Bool → List ℕ → Option Titles → Type 0
+FoundIn lost l r = MatchOption r (list_form lost l ≡ false) (Formed lost l)

@@ -4,17 +4,17 @@
 // The text of a title stands in some bytes: in the list itself, or in a lent buffer of texts.
 #![tactic(auto)]
 
-ghost use Rattle.std.specs.Prelude.{◌≡◌, true, false, [], ◌++◌, ℕ, ◌+◌, ◌-◌, ◌%◌, ◌≤◌, ◌<◌, length, take, drop, get_or, replicate};
+ghost use Rattle.std.specs.Prelude.{◌≡◌, true, [], ◌++◌, ◌&&◌, ℕ, ◌+◌, ◌-◌, ◌%◌, ◌≤◌, ◌<◌, cond, leb, is_some, length, map, take, drop, get_or, replicate};
 ghost use Rattle.units.specs.Refusals.{file_limit};
 ghost use Rattle.little.specs.Numbers.{bytes_of};
 ghost use Rattle.little.specs.Writing.{Put, front};
-ghost use Rattle.lists.specs.Among.{index_in, distinct};
+ghost use Rattle.lists.specs.Among.{distinct};
 ghost use Rattle.riff.specs.Chunks.{size_at};
 ghost use Rattle.tables.specs.Bytes.{entry_bytes};
 ghost use Rattle.tables.specs.Cues.{names_in};
-ghost use Rattle.titles.specs.Titles.{entry_in, first_entries, entries_of, closed, entry_rule, each_rule, names_by, entries_rule};
+ghost use Rattle.titles.specs.Titles.{entry_in, entries_of, closed, entry_rule, each_rule, names_by, entries_rule};
 ghost use Rattle.titles.specs.Titles.{texts_of, texts_end, moved_to, moved_in_turn, no_title, no_titles};
-ghost use Rattle.titles.specs.Lists.{front_kind, pad_fits, size_fits, no_front, front_of, entries_in, list_form, list_read, SaysAt, FoundIn};
+ghost use Rattle.titles.specs.Lists.{front_kind, title_kind, pad_fits, front_of, entries_in, list_form, list_read, SaysAt, Formed, FoundIn};
 ghost use Rattle.titles.specs.Writing.{title_code, chunk_of, list_bytes, texts_in_row, titles_right, Short};
 
 use codes::Code;
@@ -28,7 +28,7 @@ pub const MOST: u32 = 128;
 // The most bytes of their texts: room for those of every file. Each has 256 at most, its zero among them.
 pub const MOST_TITLE_BYTES: usize = 32768;
 
-// The kinds of a title.
+// The kinds of a title. They are numbers, as a record that is lent for writing may hold any, and is then refused.
 pub const LABEL: u32 = 0;
 
 pub const NOTE: u32 = 1;
@@ -42,51 +42,36 @@ pub struct Title {
     pub length: TextPlace,
 }
 
-// A table of titles; past the count it is zero.
+// A table of titles; past the count it is zero. The whole array is there beside its count, as in a table of cues.
 #[derive(Clone, Copy)]
 pub struct Titles {
     pub count: u32,
     pub list: [Title; 128],
 }
 
-// Whether a list has its form, and then where its titles stand in it.
-#[derive(Clone, Copy)]
-pub struct Found {
-    pub form: bool,
-    pub titles: Titles,
-}
-
-// Whether a list is valid, and then its titles as a record holds them.
-#[derive(Clone, Copy)]
-pub struct ListRead {
-    pub valid: bool,
-    pub titles: Titles,
-}
-
-// The chunk at the front of what is left of a list: whether it is as it may be there, and then what it is,
-// how many bytes its data are, and where the rest starts.
+// The chunk at the front of what is left of a list: the kind of a title, or none where it is no title, how
+// many bytes its data are, and where the rest starts.
 #[derive(Clone, Copy)]
 struct Front {
-    fits: bool,
-    kind: u32,
+    kind: Option<u32>,
     size: usize,
     next: usize,
 }
 
 // ---- the chunks of a list
 
-// What the chunk at the front is: a label, a note, or any other.
-fn front_kind(rest: &[u8]) -> u32
-    ensures answer { result ≡ front_kind rest.now }
-    ensures bound { result ≤ 2 }
+// The kind of the title at the front, and none where the chunk there is no title.
+#[tactic(auto, using(std::proofs::lemmas::Bool::Decides::nat_tests), unfolding(crate::specs::Lists::front_kind))]
+fn title_kind(rest: &[u8]) -> Option<u32>
+    ensures answer { result ≡ title_kind rest.now }
 {
     if codes::is_at(rest, 0, Code::Label) {
-        return LABEL;
+        return Some(LABEL);
     }
     if codes::is_at(rest, 0, Code::Note) {
-        return NOTE;
+        return Some(NOTE);
     }
-    2
+    None
 }
 
 // Whether a pad is as it may be in a list, whose own pad is lost or not.
@@ -94,71 +79,46 @@ fn pad_fits(lost: bool, pad: Pad) -> bool
     ensures answer { result ≡ pad_fits lost pad }
 {
     match pad {
-        Pad::NotNeeded => true,
-        Pad::There => true,
+        Pad::NotNeeded | Pad::There => true,
         Pad::Absent => lost,
     }
 }
 
 // Whether a title has the size that one can have; any other chunk may have any.
-fn size_fits(kind: u32, size: usize) -> bool
-    ensures answer { result ≡ size_fits kind size }
+#[tactic(auto, using(std::proofs::lemmas::Bool::Decides::nat_tests))]
+fn size_fits(kind: Option<u32>, size: usize) -> bool
+    ensures answer { result ≡ cond (is_some kind) (leb 5 size && leb size 260) true }
 {
-    if 2 <= kind {
-        return true;
-    }
-    if size < 5 {
-        return false;
-    }
-    size <= 260
-}
-
-// A chunk that is not as it may be.
-fn no_front() -> Front
-    ensures answer { result ≡ no_front }
-{
-    Front {
-        fits: false,
-        kind: 0,
-        size: 0,
-        next: 0,
+    match kind {
+        Some(_) => 5 <= size && size <= 260,
+        None => true,
     }
 }
 
-// The chunk at the front of what is left of a list, whose own pad is lost or not.
-fn front_of(rest: &[u8], lost: bool) -> Front
+// The chunk at the front of what is left of a list, whose own pad is lost or not; none where it is not as it
+// may be.
+#[tactic(auto, using(crate::proofs::Walking::fronting))]
+fn front_of(rest: &[u8], lost: bool) -> Option<Front>
     ensures answer { result ≡ front_of lost rest.now }
 {
     if rest.len() < 8 {
-        return no_front();
+        return None;
     }
     let size = little::u32_at(rest, 4) as usize;
     let end = 8 + size;
     if rest.len() < end {
-        return no_front();
+        return None;
     }
     let pad = riff::pad_after(size, end, rest.len());
     if !pad_fits(lost, pad) {
-        return no_front();
+        return None;
     }
-    let kind = front_kind(rest);
+    let kind = title_kind(rest);
     if !size_fits(kind, size) {
-        return no_front();
+        return None;
     }
-    Front {
-        fits: true,
-        kind: kind,
-        size: size,
-        next: end + riff::pad_size(pad),
-    }
-}
-
-// What is left of a list from a place on.
-fn left_from(list: &[u8], at: usize) -> &[u8]
-    requires { at ≤ length list.now }
-    ensures part { result.now ≡ drop at list.now }
-{
-    &list[at..]
+    let next = end + riff::pad_size(pad);
+    Some(Front { kind, size, next })
 }
 
 // Room for titles, all zero.
@@ -175,6 +135,7 @@ fn title_room() -> [Title; 128]
 }
 
 // No titles.
+#[tactic(auto, using(crate::proofs::Rules::none_made))]
 pub fn no_titles() -> Titles
     ensures answer { result ≡ no_titles }
 {
@@ -184,17 +145,16 @@ pub fn no_titles() -> Titles
     }
 }
 
-// What is found in a list that has not its form.
-fn none_found() -> Found
-    ensures answer { result ≡ record { form = false; titles = no_titles } }
+// The titles that a table counts.
+fn counted(titles: &Titles) -> &[Title]
+    requires { titles.now.count ≤ 128 }
+    ensures part { result.now ≡ take titles.now.count titles.now.list }
 {
-    Found {
-        form: false,
-        titles: no_titles(),
-    }
+    &titles.list[..titles.count as usize]
 }
 
 // The title that the chunk at a place of a list says, which is one of so many bytes.
+#[tactic(auto, using(crate::proofs::Walking::title_ones))]
 fn title_at(list: &[u8], at: usize, kind: u32, size: usize) -> Title
     requires kind_value { (kind ≡ front_kind (drop at list.now)) × (size ≡ size_at (drop at list.now) 0) }
     requires size_in_bounds { (at + 8 + size ≤ length list.now) × (length list.now ≤ file_limit) × (5 ≤ size) }
@@ -202,45 +162,48 @@ fn title_at(list: &[u8], at: usize, kind: u32, size: usize) -> Title
 {
     let name = little::u32_or_zero(list, at + 8);
     Title {
-        kind: kind,
+        kind,
         name: Donation(name),
         start: TextPlace((at + 12) as u32),
         length: TextPlace((size - 5) as u32),
     }
 }
 
-// The titles of a list, where they stand in it: one walk over its chunks. Whether its own pad is lost says
-// whether that of its last chunk may be.
-pub fn find_titles(list: &[u8], lost: bool) -> Found
+// The titles of a list, where they stand in it, and none where it has not its form: one walk over its chunks.
+// Whether its own pad is lost says whether that of its last chunk may be. A turn is as long as its chunk says, so
+// this is no `for`.
+pub fn find_titles(list: &[u8], lost: bool) -> Option<Titles>
     requires { length list.now ≤ file_limit }
     ensures found { FoundIn lost list.now result }
 {
     let mut titles = title_room();
+    let most = MOST as usize;
     let mut n: usize = 0;
     let mut at: usize = 4;
     while at < list.len() {
         let here = at;
-        let rest = left_from(list, here);
-        let front = front_of(rest, lost);
-        if !front.fits {
-            return none_found();
-        }
+        let front = front_of(&list[here..], lost)?;
         at += front.next;
-        if front.kind < 2 {
-            if 128 <= n {
-                return none_found();
+        if let Some(kind) = front.kind {
+            if most <= n {
+                return None;
             }
-            titles[n] = title_at(list, here, front.kind, front.size);
+            titles[n] = title_at(list, here, kind, front.size);
             n += 1;
         }
     }
-    Found {
-        form: true,
-        titles: Titles {
-            count: n as u32,
-            list: titles,
-        },
-    }
+    Some(Titles {
+        count: n as u32,
+        list: titles,
+    })
+}
+
+// The titles of a list that has its form, where they stand in it.
+pub fn titles_in(list: &[u8], lost: bool) -> Titles
+    requires { (length list.now ≤ file_limit) × (list_form lost list.now ≡ true) }
+    ensures stands { Formed lost list.now result }
+{
+    find_titles(list, lost).unwrap()
 }
 
 // ---- the rule on titles
@@ -254,75 +217,45 @@ fn text_of(source: &[u8], title: Title) -> &[u8]
     little::bytes_from(source, BytePlace(from), BytePlace(n))
 }
 
-// The place of the first zero of a text; where there is none, how many bytes it has.
-fn first_zero(text: &[u8]) -> usize
-    ensures answer { result ≡ index_in 0 text.now }
-    ensures bound { result ≤ length text.now }
-{
-    let mut i = 0;
-    while i < text.len() {
-        if text[i] == 0 {
-            return i;
-        }
-        i += 1;
-    }
-    i
-}
-
 // Whether a text is closed by a zero, the only one.
 fn is_closed(text: &[u8]) -> bool
     ensures answer { result ≡ closed text.now }
 {
-    let zero = first_zero(text);
-    zero + 1 == text.len()
+    match text.iter().position(|byte| *byte == 0) {
+        Some(zero) => zero + 1 == text.len(),
+        None => false,
+    }
 }
 
 // Whether a title is a label or a note, has a text as it must be, and names a cue.
+#[tactic(auto, using(std::proofs::lemmas::Bool::Decides::nat_tests, crate::proofs::Rules::named), unfolding(crate::specs::Titles::entry_rule))]
 fn title_rule(source: &[u8], title: Title, names: &[u32]) -> bool
     ensures answer { result ≡ entry_rule names.now (entry_in source.now title) }
 {
-    if 2 <= title.kind {
-        return false;
-    }
     let text = text_of(source, title);
-    if 256 < text.len() {
-        return false;
-    }
-    if !is_closed(text) {
-        return false;
-    }
-    let place = lists::find(names, title.name.0);
-    place < names.len()
+    title.kind <= NOTE
+        && text.len() <= 256
+        && is_closed(text)
+        && lists::find(names, title.name.0).is_some()
 }
 
-// Whether each of the first n titles keeps its rule.
-fn each_rule(source: &[u8], list: [Title; 128], n: usize, names: &[u32]) -> bool
-    requires { n ≤ 128 }
-    ensures answer { result ≡ each_rule names.now (first_entries source.now list n) }
+// Whether each title keeps its rule.
+fn each_rule(source: &[u8], list: &[Title], names: &[u32]) -> bool
+    ensures answer { result ≡ each_rule names.now (map (entry_in source.now) list.now) }
 {
-    let mut i = 0;
-    while i < n {
-        let title = list[i];
-        let kept = title_rule(source, title, names);
-        if !kept {
-            return false;
-        }
-        i += 1;
-    }
-    true
+    list.iter().all(|title| title_rule(source, *title, names))
 }
 
-// Whether no two of the first n titles that are of a kind name the same cue, whatever their texts.
-fn differ(list: [Title; 128], n: usize, kind: u32) -> bool
-    requires { n ≤ 128 }
-    ensures answer { result ≡ distinct (names_by kind (first_entries [] list n)) }
+// Whether no two titles of a kind name the same cue, whatever their texts. Their names go into an array, as the
+// library has no heap to collect them in.
+#[tactic(auto, using(crate::proofs::Rules::naming))]
+fn differ(list: &[Title], kind: u32) -> bool
+    requires { length list.now ≤ 128 }
+    ensures answer { result ≡ distinct (names_by kind (map (entry_in []) list.now)) }
 {
     let mut names = [0u32; 128];
     let mut count = 0;
-    let mut i = 0;
-    while i < n {
-        let title = list[i];
-        i += 1;
+    for title in list {
         if title.kind == kind {
             names[count] = title.name.0;
             count += 1;
@@ -332,30 +265,22 @@ fn differ(list: [Title; 128], n: usize, kind: u32) -> bool
 }
 
 // Whether titles, whose texts stand in some bytes, keep the rule.
-fn titles_rule(source: &[u8], titles: Titles, names: &[u32]) -> bool
-    requires { titles.count ≤ 128 }
-    ensures answer { result ≡ entries_rule names.now (entries_of source.now titles) }
+#[tactic(auto, using(std::proofs::lemmas::Bool::Decides::nat_tests, crate::proofs::Rules::rule_three))]
+fn titles_rule(source: &[u8], list: &[Title], names: &[u32]) -> bool
+    requires { length list.now ≤ 128 }
+    ensures answer { result ≡ entries_rule names.now (map (entry_in source.now) list.now) }
 {
-    let n = titles.count as usize;
-    let list = titles.list;
-    if !each_rule(source, list, n, names) {
-        return false;
-    }
-    if !differ(list, n, LABEL) {
-        return false;
-    }
-    differ(list, n, NOTE)
+    each_rule(source, list, names) && differ(list, LABEL) && differ(list, NOTE)
 }
 
 // The same, where names are those of cues.
-fn rule_for(source: &[u8], titles: Titles, cues: Cues) -> bool
-    requires { titles.count ≤ 128 }
-    ensures answer { result ≡ entries_rule (names_in cues) (entries_of source.now titles) }
+#[tactic(auto, using(crate::proofs::Rules::rule_for_cues))]
+fn rule_for(source: &[u8], list: &[Title], cues: Cues) -> bool
+    requires { length list.now ≤ 128 }
+    ensures answer { result ≡ entries_rule (names_in cues) (map (entry_in source.now) list.now) }
 {
-    let n = tables::held_of(cues.count);
-    let cue_list = cues.list;
-    let names = tables::names_of(cue_list);
-    titles_rule(source, titles, &names[..n])
+    let names = tables::names_of(cues.list);
+    titles_rule(source, list, &names[..tables::held_of(cues.count)])
 }
 
 // ---- what is read of a list
@@ -364,66 +289,42 @@ fn rule_for(source: &[u8], titles: Titles, cues: Cues) -> bool
 fn moved_to(title: Title, at: u32) -> Title
     ensures answer { result ≡ moved_to at title }
 {
-    let name = title.name;
-    let length = title.length;
     Title {
-        kind: title.kind,
-        name: name,
         start: TextPlace(at),
-        length: length,
+        ..title
     }
 }
 
-// The first n titles with their texts one after the other from the start of a buffer.
-fn in_turn(list: [Title; 128], n: usize) -> [Title; 128]
-    requires { (n ≤ 128) × ((i : ℕ) → i < n → (get_or list i no_title).length.0 ≤ 255) }
-    ensures answer { result ≡ moved_in_turn 0 (take n list) ++ replicate (128 - n) no_title }
+// Titles with their texts one after the other from the start of a buffer, and room for others past them.
+#[tactic(auto, using(crate::proofs::Texts::turning))]
+fn in_turn(list: &[Title]) -> [Title; 128]
+    requires { (length list.now ≤ 128) × ((i : ℕ) → i < length list.now → (get_or list.now i no_title).length.0 ≤ 255) }
+    ensures answer { result ≡ moved_in_turn 0 list.now ++ replicate (128 - length list.now) no_title }
 {
     let mut placed = title_room();
     let mut at: u32 = 0;
-    let mut i = 0;
-    while i < n {
-        let title = list[i];
-        placed[i] = moved_to(title, at);
+    for (i, title) in list.iter().enumerate() {
+        placed[i] = moved_to(*title, at);
         at += title.length.0 + 1;
-        i += 1;
     }
     placed
 }
 
-// What is read of a list that is not valid.
-fn not_valid() -> ListRead
-    ensures answer { result ≡ record { valid = false; titles = no_titles } }
-{
-    ListRead {
-        valid: false,
-        titles: no_titles(),
-    }
-}
-
-// What is read of a list, with the cues of its file. Whether its own pad is lost says whether that of its
-// last chunk may be.
-pub fn read_list(list: &[u8], lost: bool, cues: Cues) -> ListRead
+// What is read of a list, with the cues of its file, and none where it is not valid. Whether its own pad is
+// lost says whether that of its last chunk may be.
+pub fn read_list(list: &[u8], lost: bool, cues: Cues) -> Option<Titles>
     requires { length list.now ≤ file_limit }
     ensures answer { result ≡ list_read lost list.now (names_in cues) }
 {
-    let found = find_titles(list, lost);
-    if !found.form {
-        return not_valid();
+    let titles = find_titles(list, lost)?;
+    let there = counted(&titles);
+    if !rule_for(list, there, cues) {
+        return None;
     }
-    let titles = found.titles;
-    if !rule_for(list, titles, cues) {
-        return not_valid();
-    }
-    let count = titles.count;
-    let places = titles.list;
-    ListRead {
-        valid: true,
-        titles: Titles {
-            count: count,
-            list: in_turn(places, count as usize),
-        },
-    }
+    Some(Titles {
+        count: titles.count,
+        list: in_turn(there),
+    })
 }
 
 // How many bytes the texts of a table have, which stand one after the other from the start of a buffer.
@@ -431,28 +332,24 @@ pub fn texts_end(titles: Titles) -> usize
     requires { titles.count ≤ 128 }
     ensures answer { result ≡ texts_end titles }
 {
-    if titles.count < 1 {
-        return 0;
+    match counted(&titles).last() {
+        Some(last) => last.start.0 as usize + last.length.0 as usize + 1,
+        None => 0,
     }
-    let list = titles.list;
-    let last = list[titles.count as usize - 1];
-    last.start.0 as usize + last.length.0 as usize + 1
 }
 
-// Puts the texts of the first n titles from the start of a lent buffer.
-fn put_each(source: &[u8], list: [Title; 128], n: usize, out: &mut [u8])
-    requires n_bound { n ≤ 128 }
-    requires n_in_bounds { length (texts_of (first_entries source.now list n)) ≤ length out.old }
-    ensures buffer { out.new ≡ front (texts_of (first_entries source.now list n)) out.old }
+// Puts the texts of titles from the start of a lent buffer.
+#[tactic(auto, using(crate::proofs::Pouring::pouring, crate::proofs::Texts::texting))]
+fn put_each(source: &[u8], list: &[Title], out: &mut [u8])
+    requires few { length list.now ≤ 128 }
+    requires in_bounds { length (texts_of (map (entry_in source.now) list.now)) ≤ length out.old }
+    ensures buffer { out.new ≡ front (texts_of (map (entry_in source.now) list.now)) out.old }
 {
     let mut at: usize = 0;
-    let mut i = 0;
-    while i < n {
-        let title = list[i];
-        let text = text_of(source, title);
+    for title in list {
+        let text = text_of(source, *title);
         little::put_bytes(out, at, text);
         at += text.len();
-        i += 1;
     }
 }
 
@@ -462,23 +359,20 @@ pub fn put_texts(list: &[u8], lost: bool, out: &mut [u8])
     requires list_in_bounds { length (texts_of (entries_in list.now)) ≤ length out.old }
     ensures buffer { out.new ≡ front (texts_of (entries_in list.now)) out.old }
 {
-    let found = find_titles(list, lost);
-    let titles = found.titles;
-    let places = titles.list;
-    put_each(list, places, titles.count as usize, out);
+    let titles = titles_in(list, lost);
+    put_each(list, counted(&titles), out);
 }
 
 // ---- titles that may be written
 
-// Whether the texts of the first n titles stand in a row, from the start of a buffer with so much room.
-fn in_row(list: [Title; 128], n: usize, room: usize) -> bool
-    requires { n ≤ 128 }
-    ensures answer { result ≡ texts_in_row room 0 (take n list) }
+// Whether the texts of titles stand in a row, from the start of a buffer with so much room.
+#[tactic(auto, using(crate::proofs::Texts::rowing))]
+fn in_row(list: &[Title], room: usize) -> bool
+    requires { length list.now ≤ 128 }
+    ensures answer { result ≡ texts_in_row room 0 list.now }
 {
     let mut at: usize = 0;
-    let mut i = 0;
-    while i < n {
-        let title = list[i];
+    for title in list {
         if title.start.0 as usize != at {
             return false;
         }
@@ -486,35 +380,34 @@ fn in_row(list: [Title; 128], n: usize, room: usize) -> bool
         if room < at {
             return false;
         }
-        i += 1;
     }
     true
 }
 
 // Whether titles, whose texts stand in a buffer, are as reading gives them.
+#[tactic(auto, using(crate::proofs::Lists::right))]
 pub fn titles_right(source: &[u8], titles: Titles, cues: Cues) -> bool
     ensures answer { result ≡ titles_right (names_in cues) source.now titles }
 {
     if MOST < titles.count {
         return false;
     }
-    let list = titles.list;
-    if !in_row(list, titles.count as usize, source.len()) {
-        return false;
-    }
-    rule_for(source, titles, cues)
+    let list = counted(&titles);
+    in_row(list, source.len()) && rule_for(source, list, cues)
 }
 
 // ---- the list as it is written
 
 // The code of a kind.
+#[tactic(auto, using(crate::proofs::Putting::coding))]
 fn code_of(kind: u32) -> Code
     ensures answer { result ≡ title_code kind }
 {
     if kind == LABEL {
-        return Code::Label;
+        Code::Label
+    } else {
+        Code::Note
     }
-    Code::Note
 }
 
 // Puts a name and a text behind it.
@@ -527,6 +420,7 @@ fn put_named(out: &mut [u8], at: usize, name: Donation, text: &[u8])
 }
 
 // Puts a title as a chunk, and gives the place behind it.
+#[tactic(auto, using(crate::proofs::Putting::titling))]
 fn put_title(source: &[u8], title: Title, out: &mut [u8], at: usize) -> usize
     requires title_len_bound { length (entry_in source.now title).text ≤ 256 }
     requires title_in_bounds { at + length (chunk_of (entry_in source.now title)) ≤ length out.old }
@@ -542,33 +436,33 @@ fn put_title(source: &[u8], title: Title, out: &mut [u8], at: usize) -> usize
     at + 8 + size + size % 2
 }
 
-// Puts the first n titles as chunks, one behind the other.
-fn put_chunks(source: &[u8], list: [Title; 128], n: usize, out: &mut [u8], at: usize)
-    requires short { Short source.now list n }
-    requires n_in_bounds { at + length (entry_bytes chunk_of (first_entries source.now list n)) ≤ length out.old }
-    ensures buffer { Put out.old at (entry_bytes chunk_of (first_entries source.now list n)) out.new }
+// Puts titles as chunks, one behind the other.
+#[tactic(auto, using(crate::proofs::Pouring::pouring, crate::proofs::Putting::adding))]
+fn put_chunks(source: &[u8], list: &[Title], out: &mut [u8], at: usize)
+    requires short { Short source.now list.now (length list.now) }
+    requires in_bounds { at + length (entry_bytes chunk_of (map (entry_in source.now) list.now)) ≤ length out.old }
+    ensures buffer { Put out.old at (entry_bytes chunk_of (map (entry_in source.now) list.now)) out.new }
 {
     let mut next = at;
-    let mut i = 0;
-    while i < n {
-        let title = list[i];
-        next = put_title(source, title, out, next);
-        i += 1;
+    for title in list {
+        next = put_title(source, *title, out, next);
     }
 }
 
 // Puts the list of titles, whose texts stand in some bytes, at a place.
+#[tactic(auto, using(crate::proofs::Putting::listing))]
 pub fn put_list(out: &mut [u8], at: usize, source: &[u8], titles: Titles)
     requires short { Short source.now titles.list titles.count }
     requires titles_in_bounds { at + length (list_bytes (entries_of source.now titles)) ≤ length out.old }
     ensures buffer { Put out.old at (list_bytes (entries_of source.now titles)) out.new }
 {
-    let list = titles.list;
+    let list = counted(&titles);
     codes::put(out, at, Code::Titles);
-    put_chunks(source, list, titles.count as usize, out, at + 4);
+    put_chunks(source, list, out, at + 4);
 }
 
 // The bytes that a title takes as a chunk.
+#[tactic(auto, using(crate::proofs::Putting::chunk_sizing))]
 fn chunk_size(source: &[u8], title: Title) -> usize
     requires { length (entry_in source.now title).text ≤ 256 }
     ensures answer { result ≡ length (chunk_of (entry_in source.now title)) }
@@ -580,30 +474,28 @@ fn chunk_size(source: &[u8], title: Title) -> usize
     8 + size + size % 2
 }
 
-// The bytes that the first n titles take as chunks.
-fn chunks_size(source: &[u8], list: [Title; 128], n: usize) -> usize
-    requires { Short source.now list n }
-    ensures answer { result ≡ length (entry_bytes chunk_of (first_entries source.now list n)) }
+// The bytes that titles take as chunks.
+#[tactic(auto, using(crate::proofs::Putting::adding))]
+fn chunks_size(source: &[u8], list: &[Title]) -> usize
+    requires { Short source.now list.now (length list.now) }
+    ensures answer { result ≡ length (entry_bytes chunk_of (map (entry_in source.now) list.now)) }
     ensures bound { result ≤ 34304 }
     ensures even { result % 2 ≡ 0 }
 {
     let mut size: usize = 0;
-    let mut i = 0;
-    while i < n {
-        let title = list[i];
-        size += chunk_size(source, title);
-        i += 1;
+    for title in list {
+        size += chunk_size(source, *title);
     }
     size
 }
 
 // The bytes that the list of titles takes.
+#[tactic(auto, using(crate::proofs::Putting::listing))]
 pub fn list_size(source: &[u8], titles: Titles) -> usize
     requires { Short source.now titles.list titles.count }
     ensures answer { result ≡ length (list_bytes (entries_of source.now titles)) }
     ensures bound { result ≤ 34308 }
     ensures even { result % 2 ≡ 0 }
 {
-    let list = titles.list;
-    4 + chunks_size(source, list, titles.count as usize)
+    4 + chunks_size(source, counted(&titles))
 }

@@ -1,9 +1,7 @@
 -- The limit, the table of refusal numbers, row by row, and the number of a verdict. Assumes nothing.
-use Rattle.std.specs.Prelude.{ℕ}
+use Rattle.std.specs.Prelude.{ℕ, Result, Ok, Err}
 use Rattle.units.specs.declared.Refusal.{Refusal}
 use Rattle.units.specs.declared.Refusal.TheVariants.{LengthOutOfRange, NotWave, RiffSizeWrong, ChunkPastTheEnd, SecondOfItsKind, DataBeforeFormat, WaveList, FormatOrDataMissing, FormatWrong, NotWholeFrames, FactWrong, CuesWrong, PlaylistWrong, OutputTooSmall, BlockHeaderWrong, SongEmptyOrDifferent, NoPlaceOnSide, AlreadyListed, NotASide, NoSuchBlock, TitlesWrong}
-use Rattle.units.specs.declared.Verdict.{Verdict}
-use Rattle.units.specs.declared.Verdict.TheVariants.{Accepted, Refused}
 
 -- the limit: a file has at most so many bytes, 1 GiB
 abbrev pub file_limit : ℕ
@@ -54,7 +52,11 @@ number_of NoSuchBlock = 20
 -- a wrong list of titles or title
 number_of TitlesWrong = 21
 
+-- what an input is judged to be: taken, or refused and why
+abbrev pub Verdict : Type 0
+Verdict = Result (Unit {0}) Refusal
+
 -- the number that a verdict tells: 0 where the input is taken
 abbrev pub verdict_number : Verdict → ℕ
-verdict_number Accepted = 0
-verdict_number (Refused r) = number_of r
+verdict_number (Ok _) = 0
+verdict_number (Err r) = number_of r

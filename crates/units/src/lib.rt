@@ -1,4 +1,4 @@
-// The four units, the twenty-one reasons to refuse, and the verdict on an input.
+// The four units, and the twenty-one reasons to refuse.
 //
 // A count of frames, a place in bytes, the number of a donated song and a place among the texts of
 // titles are four types, so that none is taken for another. A refusal has the number of document 01's
@@ -27,64 +27,35 @@ pub struct TextPlace(pub u32);
 // The limit: a file has at most so many bytes.
 pub const LIMIT: usize = 1073741824;
 
-// Why an input is refused, in the order of document 01's table.
-#[derive(Clone, Copy)]
+// Why an input is refused, each with its number.
+#[derive(Clone, Copy, PartialEq, Eq)]
 pub enum Refusal {
-    LengthOutOfRange,
-    NotWave,
-    RiffSizeWrong,
-    ChunkPastTheEnd,
-    SecondOfItsKind,
-    DataBeforeFormat,
-    WaveList,
-    FormatOrDataMissing,
-    FormatWrong,
-    NotWholeFrames,
-    FactWrong,
-    CuesWrong,
-    PlaylistWrong,
-    OutputTooSmall,
-    BlockHeaderWrong,
-    SongEmptyOrDifferent,
-    NoPlaceOnSide,
-    AlreadyListed,
-    NotASide,
-    NoSuchBlock,
-    TitlesWrong,
-}
-
-// What an input is judged to be: taken, or refused and why.
-#[derive(Clone, Copy)]
-pub enum Verdict {
-    Accepted,
-    Refused(Refusal),
+    LengthOutOfRange = 1,
+    NotWave = 2,
+    RiffSizeWrong = 3,
+    ChunkPastTheEnd = 4,
+    SecondOfItsKind = 5,
+    DataBeforeFormat = 6,
+    WaveList = 7,
+    FormatOrDataMissing = 8,
+    FormatWrong = 9,
+    NotWholeFrames = 10,
+    FactWrong = 11,
+    CuesWrong = 12,
+    PlaylistWrong = 13,
+    OutputTooSmall = 14,
+    BlockHeaderWrong = 15,
+    SongEmptyOrDifferent = 16,
+    NoPlaceOnSide = 17,
+    AlreadyListed = 18,
+    NotASide = 19,
+    NoSuchBlock = 20,
+    TitlesWrong = 21,
 }
 
 // The number of a refusal.
 pub fn number(refusal: Refusal) -> u8
     ensures answer { result ≡ number_of refusal }
 {
-    match refusal {
-        Refusal::LengthOutOfRange => 1,
-        Refusal::NotWave => 2,
-        Refusal::RiffSizeWrong => 3,
-        Refusal::ChunkPastTheEnd => 4,
-        Refusal::SecondOfItsKind => 5,
-        Refusal::DataBeforeFormat => 6,
-        Refusal::WaveList => 7,
-        Refusal::FormatOrDataMissing => 8,
-        Refusal::FormatWrong => 9,
-        Refusal::NotWholeFrames => 10,
-        Refusal::FactWrong => 11,
-        Refusal::CuesWrong => 12,
-        Refusal::PlaylistWrong => 13,
-        Refusal::OutputTooSmall => 14,
-        Refusal::BlockHeaderWrong => 15,
-        Refusal::SongEmptyOrDifferent => 16,
-        Refusal::NoPlaceOnSide => 17,
-        Refusal::AlreadyListed => 18,
-        Refusal::NotASide => 19,
-        Refusal::NoSuchBlock => 20,
-        Refusal::TitlesWrong => 21,
-    }
+    refusal as u8
 }

@@ -9,14 +9,13 @@
 use crate::entries::label;
 use crate::lent::{refused_lines, written_lines};
 use std::io;
-use units::{BytePlace, Donation, Frames};
-use writer::Written;
+use units::{BytePlace, Donation, Frames, Refusal};
 
 // The number of a refusal, or 0 for a new side.
-fn number_of(added: Written) -> u64 {
+fn number_of(added: Result<BytePlace, Refusal>) -> u64 {
     match added {
-        Written::Bytes(_) => 0,
-        Written::Refused(refusal) => units::number(refusal) as u64,
+        Ok(_) => 0,
+        Err(refusal) => units::number(refusal) as u64,
     }
 }
 
@@ -30,8 +29,7 @@ fn again_line(
 ) -> io::Result<()> {
     let mut out = [170u8; 16384];
     let added = side::add(old, song, number, limit, &mut out);
-    show::field(rt, b"again ", number_of(added))?;
-    show::line(rt)
+    println!(rt; "again {}", number_of(added))
 }
 
 // A new side in a lent buffer, and what comes of the same song again.
@@ -63,16 +61,16 @@ fn add(
     out: &mut [u8],
 ) -> io::Result<()> {
     match side::add(old, song, number, limit, out) {
-        Written::Bytes(size) => added_lines(rt, size.0, out, song, number, limit),
-        Written::Refused(refusal) => refused_lines(rt, refusal, out),
+        Ok(size) => added_lines(rt, size.0, out, song, number, limit),
+        Err(refusal) => refused_lines(rt, refusal, out),
     }
 }
 
 // Makes an empty side in a lent buffer.
 fn start(rt: &impl Print, channels: u16, rate: u32, out: &mut [u8]) -> io::Result<()> {
     match side::empty(channels, rate, out) {
-        Written::Bytes(size) => written_lines(rt, size.0, out),
-        Written::Refused(refusal) => refused_lines(rt, refusal, out),
+        Ok(size) => written_lines(rt, size.0, out),
+        Err(refusal) => refused_lines(rt, refusal, out),
     }
 }
 

@@ -9,16 +9,14 @@ use crate::decoding::heard_line;
 use crate::encoding::{Asked, asked_in, encode_asked};
 use crate::entries::label;
 use crate::lent::count;
-use decode::Decoded;
-use encode::{Coded, Encoded};
+use encode::Coded;
 use rules::Record;
 use std::io;
 use units::{BytePlace, Frames, Refusal};
-use writer::Written;
 
 // A refusal, after the word for what refused.
-fn refused(rt: &impl Print, word: &[u8], refusal: Refusal) -> io::Result<()> {
-    show::word(rt, word)?;
+fn refused(rt: &impl Print, word: &str, refusal: Refusal) -> io::Result<()> {
+    print!(rt; "{word} ")?;
     listing::refused(rt, refusal)
 }
 
@@ -31,8 +29,8 @@ fn heard_lines(rt: &impl Print, frames: Frames, heard: &[i16]) -> io::Result<()>
 // Decodes a file to a lent sound.
 fn decode(rt: &impl Print, file: &[u8], heard: &mut [i16]) -> io::Result<()> {
     match decode::decode(file, heard) {
-        Decoded::Frames(frames) => heard_lines(rt, frames, heard),
-        Decoded::Refused(refusal) => refused(rt, b"decode ", refusal),
+        Ok(frames) => heard_lines(rt, frames, heard),
+        Err(refusal) => refused(rt, "decode", refusal),
     }
 }
 
@@ -46,9 +44,7 @@ fn decode_in(rt: &impl Print, file: &[u8], room: usize) -> io::Result<()> {
 // What was written of a sound of n samples, and what is heard in it.
 fn written_lines(rt: &impl Print, file: &[u8], coded: Coded, n: usize) -> io::Result<()> {
     show::mixed_line(rt, file)?;
-    show::field(rt, b"chased left ", coded.left.0 as u64)?;
-    show::field(rt, b" right ", coded.right.0 as u64)?;
-    show::line(rt)?;
+    println!(rt; "chased left {} right {}", coded.left.0, coded.right.0)?;
     decode_in(rt, file, n)
 }
 
@@ -62,13 +58,8 @@ fn write(
     out: &mut [u8],
 ) -> io::Result<()> {
     match writer::write(made, b"", blocks, out) {
-        Written::Bytes(size) => written_lines(
-            rt,
-            little::bytes_from(out, BytePlace(0), size),
-            coded,
-            n,
-        ),
-        Written::Refused(refusal) => refused(rt, b"write ", refusal),
+        Ok(size) => written_lines(rt, little::bytes_from(out, BytePlace(0), size), coded, n),
+        Err(refusal) => refused(rt, "write", refusal),
     }
 }
 
@@ -101,13 +92,13 @@ fn write_in(
 // The copy of a sound of n samples, whose blocks are in a lent buffer.
 pub fn copy_lines(
     rt: &impl Print,
-    answer: Encoded,
+    answer: Result<Coded, Refusal>,
     asked: Asked,
     n: usize,
     out: &[u8],
 ) -> io::Result<()> {
     match answer {
-        Encoded::Blocks(coded) => {
+        Ok(coded) => {
             write_in(
                 rt,
                 asked,
@@ -116,7 +107,7 @@ pub fn copy_lines(
                 n,
             )
         }
-        Encoded::Refused(refusal) => refused(rt, b"encode ", refusal),
+        Err(refusal) => refused(rt, "encode", refusal),
     }
 }
 

@@ -6,15 +6,14 @@
 // each sample is 7.
 use crate::entries::label;
 use crate::lent::{count, mixed_line, sound_line};
-use decode::Decoded;
 use std::io;
-use units::BytePlace;
+use units::{BytePlace, Frames, Refusal};
 
 // The answer of decoding.
-fn answer_line(rt: &impl Print, answer: Decoded) -> io::Result<()> {
+fn answer_line(rt: &impl Print, answer: Result<Frames, Refusal>) -> io::Result<()> {
     match answer {
-        Decoded::Frames(frames) => listing::frames(rt, frames),
-        Decoded::Refused(refusal) => listing::refused(rt, refusal),
+        Ok(frames) => listing::frames(rt, frames),
+        Err(refusal) => listing::refused(rt, refusal),
     }
 }
 
@@ -36,10 +35,10 @@ fn lent_line(rt: &impl Print, out: &[i16]) -> io::Result<()> {
     if 64 < out.len() {
         return heard_line(rt, out);
     }
-    sound_line(rt, b"sound", out)
+    sound_line(rt, "sound", out)
 }
 
-// Decodes a file, or a block of it, to a lent sound.
+// Decodes a file, or a block of it, to a lent sound. The kind is a number of the input.
 fn decode(rt: &impl Print, file: &[u8], kind: u16, block: u32, out: &mut [i16]) -> io::Result<()> {
     if kind == 0 {
         answer_line(rt, decode::decode(file, out))?;

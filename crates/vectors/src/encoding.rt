@@ -6,9 +6,9 @@
 use crate::copying::copy_lines;
 use crate::entries::label;
 use crate::lent::{bytes_line, count};
-use encode::{Coded, Encoded};
+use encode::Coded;
 use std::io;
-use units::BytePlace;
+use units::{BytePlace, Refusal};
 
 // What an entry asks for. A copy goes on with the blocks.
 #[derive(Drop)]
@@ -22,26 +22,24 @@ pub struct Asked {
 
 // What coding gave.
 fn coded_line(rt: &impl Print, coded: Coded) -> io::Result<()> {
-    show::field(rt, b"bytes ", coded.bytes.0 as u64)?;
-    show::field(rt, b" left ", coded.left.0 as u64)?;
-    show::field(rt, b" right ", coded.right.0 as u64)?;
-    show::line(rt)
+    let Coded { bytes, left, right } = coded;
+    println!(rt; "bytes {} left {} right {}", bytes.0, left.0, right.0)
 }
 
 // The answer of coding.
-fn answer_line(rt: &impl Print, answer: Encoded) -> io::Result<()> {
+fn answer_line(rt: &impl Print, answer: Result<Coded, Refusal>) -> io::Result<()> {
     match answer {
-        Encoded::Blocks(coded) => coded_line(rt, coded),
-        Encoded::Refused(refusal) => listing::refused(rt, refusal),
+        Ok(coded) => coded_line(rt, coded),
+        Err(refusal) => listing::refused(rt, refusal),
     }
 }
 
 // A lent buffer: a number mixed of it, and its first bytes.
 fn buffer_line(rt: &impl Print, out: &[u8]) -> io::Result<()> {
-    show::field(rt, b"mixed ", show::mixed_bytes(out))?;
+    print!(rt; "mixed {}", show::mixed_bytes(out))?;
     bytes_line(
         rt,
-        b" starts",
+        " starts",
         little::bytes_from(out, BytePlace(0), BytePlace(32)),
     )
 }

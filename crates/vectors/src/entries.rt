@@ -21,10 +21,7 @@ pub fn label(rt: &impl Print, table: &[u8], head: u16) -> io::Result<usize>
 {
     let from = head as usize;
     let size = little::u16_or_zero(table, 0) as usize;
-    show::word(
-        rt,
-        little::bytes_from(table, BytePlace(from), BytePlace(size)),
-    )?;
-    show::line(rt)?;
+    rt.write_all(little::bytes_from(table, BytePlace(from), BytePlace(size)))?;
+    println!(rt)?;
     Ok(from + size)
 }

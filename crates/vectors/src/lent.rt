@@ -29,23 +29,22 @@ pub fn texts_of(titles: Titles, bytes: &[u8]) -> &[u8] {
 }
 
 // Bytes after a word.
-pub fn bytes_line(rt: &impl Print, word: &[u8], bytes: &[u8]) -> io::Result<()> {
-    show::word(rt, word)?;
+pub fn bytes_line(rt: &impl Print, word: &str, bytes: &[u8]) -> io::Result<()> {
+    print!(rt; "{word}")?;
     show::bytes(rt, bytes)?;
-    show::line(rt)
+    println!(rt)
 }
 
 // Samples after a word.
-pub fn sound_line(rt: &impl Print, word: &[u8], sound: &[i16]) -> io::Result<()> {
-    show::word(rt, word)?;
+pub fn sound_line(rt: &impl Print, word: &str, sound: &[i16]) -> io::Result<()> {
+    print!(rt; "{word}")?;
     show::sound(rt, sound)?;
-    show::line(rt)
+    println!(rt)
 }
 
 // A number mixed of bytes.
 pub fn mixed_line(rt: &impl Print, bytes: &[u8]) -> io::Result<()> {
-    show::field(rt, b"mixed ", show::mixed_bytes(bytes))?;
-    show::line(rt)
+    println!(rt; "mixed {}", show::mixed_bytes(bytes))
 }
 
 // A file, or of more than 128 bytes a number mixed of them.
@@ -53,16 +52,16 @@ fn file_line(rt: &impl Print, file: &[u8]) -> io::Result<()> {
     if 128 < file.len() {
         return mixed_line(rt, file);
     }
-    bytes_line(rt, b"file", file)
+    bytes_line(rt, "file", file)
 }
 
 // Whether what nothing was written to is as it was.
 pub fn rest_line(rt: &impl Print, rest: &[u8]) -> io::Result<()> {
     let before = [170u8; 16384];
     let n = rest.len();
-    show::field(rt, b"rest ", n as u64)?;
     let untouched = rest == little::bytes_from(&before, BytePlace(0), BytePlace(n));
-    show::either(rt, untouched, b" untouched", b" changed")
+    let told = if untouched { "untouched" } else { "changed" };
+    println!(rt; "rest {n} {told}")
 }
 
 // A refusal, and the lent buffer.
@@ -73,8 +72,7 @@ pub fn refused_lines(rt: &impl Print, refusal: Refusal, out: &[u8]) -> io::Resul
 
 // How many bytes were written to a lent buffer, and which.
 pub fn written_lines(rt: &impl Print, size: usize, out: &[u8]) -> io::Result<()> {
-    show::field(rt, b"bytes ", size as u64)?;
-    show::line(rt)?;
+    println!(rt; "bytes {size}")?;
     file_line(rt, little::bytes_from(out, BytePlace(0), BytePlace(size)))?;
     rest_line(rt, past(out, size))
 }

@@ -29,8 +29,7 @@ fn room() -> [u8; 524288]
 
 // Says that a byte is no operation, and skips all that follows.
 fn no_operation(rt: &impl Print, operation: u8, table: &[u8]) -> io::Result<usize> {
-    show::field(rt, b"no operation ", operation as u64)?;
-    show::line(rt)?;
+    println!(rt; "no operation {operation}")?;
     Ok(table.len())
 }
 

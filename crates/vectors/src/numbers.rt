@@ -6,11 +6,8 @@ use std::io;
 use units::BytePlace;
 
 // A place and the numbers there.
-fn numbers_line(rt: &impl Print, word: &[u8], at: usize, small: u16, large: u32) -> io::Result<()> {
-    show::field(rt, word, at as u64)?;
-    show::field(rt, b" u16 ", small as u64)?;
-    show::field(rt, b" u32 ", large as u64)?;
-    show::line(rt)
+fn numbers_line(rt: &impl Print, word: &str, at: usize, small: u16, large: u32) -> io::Result<()> {
+    println!(rt; "{word} {at} u16 {small} u32 {large}")
 }
 
 // The numbers at a place with room for both.
@@ -22,13 +19,13 @@ fn inside(rt: &impl Print, bytes: &[u8], at: usize) -> io::Result<()> {
         return Ok(());
     }
     let small = little::u16_at(bytes, at);
-    numbers_line(rt, b"inside ", at, small, little::u32_at(bytes, at))
+    numbers_line(rt, "inside", at, small, little::u32_at(bytes, at))
 }
 
 // The numbers at any place.
 fn anywhere(rt: &impl Print, bytes: &[u8], at: usize) -> io::Result<()> {
     let small = little::u16_or_zero(bytes, at);
-    numbers_line(rt, b"anywhere ", at, small, little::u32_or_zero(bytes, at))
+    numbers_line(rt, "anywhere", at, small, little::u32_or_zero(bytes, at))
 }
 
 // The numbers at each place of 24 bytes, and at some past the end.
@@ -70,7 +67,7 @@ fn buffer_line(rt: &impl Print, out: &mut [u8], at: usize, piece: &[u8]) -> io::
         return Ok(());
     }
     put(out, at, piece);
-    bytes_line(rt, b"buffer", out)
+    bytes_line(rt, "buffer", out)
 }
 
 // The same in a buffer that holds at most 160 bytes.

@@ -7,15 +7,15 @@
 // byte was 170.
 use crate::entries::{label, past};
 use crate::lent;
-use riff::{Pad, Spot};
+use riff::Pad;
 use std::io;
 use tables::{Cue, Cues};
 use titles::{Title, Titles};
-use units::{BytePlace, Verdict};
+use units::BytePlace;
 
 // The position of a cue, after a blank.
 fn position(rt: &impl Print, cue: Cue) -> io::Result<()> {
-    show::field(rt, b" ", cue.position.0 as u64)
+    print!(rt; " {}", cue.position.0)
 }
 
 // The positions of the cues.
@@ -29,9 +29,9 @@ fn positions(rt: &impl Print, cues: Cues) -> io::Result<()> {
 // Whether a pad is there.
 fn pad_words(rt: &impl Print, pad: Pad) -> io::Result<()> {
     match pad {
-        Pad::NotNeeded => show::word(rt, b" pad not needed "),
-        Pad::There => show::word(rt, b" pad there "),
-        Pad::Absent => show::word(rt, b" pad absent "),
+        Pad::NotNeeded => print!(rt; " pad not needed "),
+        Pad::There => print!(rt; " pad there "),
+        Pad::Absent => print!(rt; " pad absent "),
     }
 }
 
@@ -39,35 +39,39 @@ fn pad_words(rt: &impl Print, pad: Pad) -> io::Result<()> {
 fn sound_line(rt: &impl Print, file: &[u8]) -> io::Result<()> {
     let spot = reader::sound_spot(file);
     let bytes = reader::sound_of(file);
-    show::word(rt, b"sound ")?;
-    if let Spot::At(place) = spot {
+    print!(rt; "sound ")?;
+    if let Some(place) = spot {
         let pad = place.pad;
-        show::field(rt, b"at ", place.start.0 as u64)?;
+        print!(rt; "at {}", place.start.0)?;
         pad_words(rt, pad)?;
     }
     show::mixed_line(rt, bytes)
 }
 
-// What the listing of a file leaves out.
+// What the listing of a file leaves out; of a refused file all is 0.
 fn more_line(rt: &impl Print, file: &[u8]) -> io::Result<()> {
-    let opened = reader::open(file);
-    let reading = opened.answer;
-    let made = reading.made;
-    let format = made.format;
-    let cues = made.cues;
-    show::field(rt, b"align ", format.align as u64)?;
-    show::field(rt, b" samples ", format.samples as u64)?;
-    show::word(rt, b" positions")?;
+    let (align, samples, cues) = match reader::open(file) {
+        Ok(opened) => (
+            opened.made.format.align,
+            opened.made.format.samples,
+            opened.made.cues,
+        ),
+        Err(_) => (0, 0, tables::no_cues()),
+    };
+    print!(rt; "align {align} samples {samples} positions")?;
     positions(rt, cues)?;
-    show::line(rt)
+    println!(rt)
 }
 
 // A title: its kind, the name of its cue, where its text starts and how long it is, each after a blank.
 fn title(rt: &impl Print, found: Title) -> io::Result<()> {
-    show::field(rt, b" ", found.kind as u64)?;
-    show::field(rt, b" ", found.name.0 as u64)?;
-    show::field(rt, b" ", found.start.0 as u64)?;
-    show::field(rt, b" ", found.length.0 as u64)
+    let Title {
+        kind,
+        name,
+        start,
+        length,
+    } = found;
+    print!(rt; " {kind} {} {} {}", name.0, start.0, length.0)
 }
 
 // The titles of a table.
@@ -81,23 +85,19 @@ fn each_title(rt: &impl Print, titles: Titles) -> io::Result<()> {
 // The titles of a file, and their texts in a lent buffer.
 fn accepted_lines(rt: &impl Print, titles: Titles, out: &[u8]) -> io::Result<()> {
     each_title(rt, titles)?;
-    show::line(rt)?;
+    println!(rt)?;
     let texts = lent::texts_of(titles, out);
-    show::word(rt, b"texts ")?;
+    print!(rt; "texts ")?;
     show::mixed_line(rt, texts)?;
     lent::rest_line(rt, past(out, texts.len()))
 }
 
 // Reads a file, with a lent buffer for its texts.
 fn read(rt: &impl Print, file: &[u8], out: &mut [u8]) -> io::Result<()> {
-    let reading = reader::read(file, out);
-    let verdict = reading.verdict;
-    let made = reading.made;
-    let titles = made.titles;
-    match verdict {
-        Verdict::Accepted => accepted_lines(rt, titles, out),
-        Verdict::Refused(refusal) => {
-            show::word(rt, b" ")?;
+    match reader::read(file, out) {
+        Ok(made) => accepted_lines(rt, made.titles, out),
+        Err(refusal) => {
+            print!(rt; " ")?;
             lent::refused_lines(rt, refusal, out)
         }
     }
@@ -107,7 +107,7 @@ fn read(rt: &impl Print, file: &[u8], out: &mut [u8]) -> io::Result<()> {
 fn title_lines(rt: &impl Print, file: &[u8], room: u16) -> io::Result<()> {
     let mut out = [170u8; 16384];
     let n = (room as usize).min(out.len());
-    show::word(rt, b"titles")?;
+    print!(rt; "titles")?;
     read(rt, file, &mut out[..n])
 }
 

@@ -34,9 +34,7 @@ fn refusal_in(row: u16) -> Refusal {
 
 // It takes what the units hold with no cast, so it compiles only where their widths are these.
 fn largest(rt: &impl Print, frames: u32, place: usize, donation: u32) -> io::Result<()> {
-    show::field(rt, b"frames ", frames as u64)?;
-    show::field(rt, b" place ", place as u64)?;
-    show::field(rt, b" donation ", donation as u64)
+    print!(rt; "frames {frames} place {place} donation {donation}")
 }
 
 // What stands before the meaning.
@@ -47,8 +45,7 @@ fn front(rt: &impl Print, row: u16) -> io::Result<()> {
         let song = Donation(4294967295);
         return largest(rt, frames.0, place.0, song.0);
     }
-    show::number(rt, units::number(refusal_in(row)) as u64)?;
-    show::word(rt, b" ")
+    print!(rt; "{} ", units::number(refusal_in(row)))
 }
 
 pub fn entry(rt: &impl Print, table: &[u8]) -> io::Result<usize> {

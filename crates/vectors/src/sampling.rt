@@ -19,9 +19,7 @@ fn all_samples(rt: &impl Print) -> io::Result<()> {
         signed = show::mixed(signed, raised(sample));
         back = show::mixed(back, samples::to_bits(sample) as u64);
     }
-    show::field(rt, b"all samples ", signed)?;
-    show::field(rt, b" their bits ", back)?;
-    show::line(rt)
+    println!(rt; "all samples {signed} their bits {back}")
 }
 
 fn all_eights(rt: &impl Print) -> io::Result<()> {
@@ -29,8 +27,7 @@ fn all_eights(rt: &impl Print) -> io::Result<()> {
     for value in 0u32..256 {
         number = show::mixed(number, raised(samples::from_eight(value as u8)));
     }
-    show::field(rt, b"all values of 8 bits ", number)?;
-    show::line(rt)
+    println!(rt; "all values of 8 bits {number}")
 }
 
 fn sixteen(rt: &impl Print, bytes: &[u8], out: &mut [i16]) -> io::Result<()> {
@@ -38,7 +35,7 @@ fn sixteen(rt: &impl Print, bytes: &[u8], out: &mut [i16]) -> io::Result<()> {
         return Ok(());
     }
     samples::from_pcm16(bytes, out);
-    sound_line(rt, b"sixteen", out)
+    sound_line(rt, "sixteen", out)
 }
 
 fn eight(rt: &impl Print, bytes: &[u8], out: &mut [i16]) -> io::Result<()> {
@@ -46,7 +43,7 @@ fn eight(rt: &impl Print, bytes: &[u8], out: &mut [i16]) -> io::Result<()> {
         return Ok(());
     }
     samples::from_pcm8(bytes, out);
-    sound_line(rt, b"eight", out)
+    sound_line(rt, "eight", out)
 }
 
 fn bytes_of(rt: &impl Print, sound: &[i16], out: &mut [u8]) -> io::Result<()> {
@@ -54,7 +51,7 @@ fn bytes_of(rt: &impl Print, sound: &[i16], out: &mut [u8]) -> io::Result<()> {
         return Ok(());
     }
     samples::to_pcm16(sound, out);
-    bytes_line(rt, b"bytes", out)
+    bytes_line(rt, "bytes", out)
 }
 
 fn one(rt: &impl Print, bytes: &[u8], at: usize, out: &mut [u8]) -> io::Result<()> {
@@ -69,31 +66,26 @@ fn one(rt: &impl Print, bytes: &[u8], at: usize, out: &mut [u8]) -> io::Result<(
     }
     let sample = samples::sample_at(bytes, at);
     samples::put_sample(out, 3, sample);
-    show::word(rt, b"one ")?;
-    show::sample(rt, sample)?;
-    bytes_line(rt, b"", out)
+    print!(rt; "one {sample}")?;
+    bytes_line(rt, "", out)
 }
 
-fn held(rt: &impl Print, text: &[u8], value: i32) -> io::Result<()> {
-    show::word(rt, b"held ")?;
-    show::word(rt, text)?;
-    show::word(rt, b" ")?;
-    show::sample(rt, samples::held(value))?;
-    show::line(rt)
+fn held(rt: &impl Print, value: i32) -> io::Result<()> {
+    println!(rt; "held {value} {}", samples::held(value))
 }
 
 fn all_held(rt: &impl Print) -> io::Result<()> {
-    held(rt, b"-2147483648", -2147483648)?;
-    held(rt, b"-32769", -32769)?;
-    held(rt, b"-32768", -32768)?;
-    held(rt, b"-32767", -32767)?;
-    held(rt, b"-1", -1)?;
-    held(rt, b"0", 0)?;
-    held(rt, b"1", 1)?;
-    held(rt, b"32766", 32766)?;
-    held(rt, b"32767", 32767)?;
-    held(rt, b"32768", 32768)?;
-    held(rt, b"2147483647", 2147483647)
+    held(rt, -2147483648)?;
+    held(rt, -32769)?;
+    held(rt, -32768)?;
+    held(rt, -32767)?;
+    held(rt, -1)?;
+    held(rt, 0)?;
+    held(rt, 1)?;
+    held(rt, 32766)?;
+    held(rt, 32767)?;
+    held(rt, 32768)?;
+    held(rt, 2147483647)
 }
 
 fn from_and_back(rt: &impl Print, bytes: &[u8]) -> io::Result<()> {

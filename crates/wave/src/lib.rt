@@ -19,8 +19,6 @@ pub use units::Donation;
 
 // Why an input is refused: a name for each row of document 01's table.
 pub use units::Refusal;
-// Taken, or refused and why.
-pub use units::Verdict;
 // The number of a refusal.
 pub use units::number;
 
@@ -49,43 +47,37 @@ pub use rules::Record;
 
 // ---- reading
 
-// The verdict on a file and its record, which is all zero where the file is refused.
-pub use rules::Reading;
-// Reads a file, and puts the texts of its titles into a lent buffer: refusals 1 to 13, 21, 14.
+// The record of a file, or why it has none; the texts of its titles go into a lent buffer: refusals 1 to 13, 21, 14.
 pub use reader::read;
 // The sound data of a file, that very part of it; of a refused file, an empty part.
 pub use reader::sound_of;
 
 // ---- writing
 
-// The bytes of the file or the new side that was written, or why there is none.
-pub use writer::Written;
-// Writes a record, the texts of its titles and its sound as a file: 9 to 13, 21, 1, 14.
+// Writes a record, the texts of its titles and its sound as a file, and tells how many bytes it has, or why there is none:
+// 9 to 13, 21, 1, 14.
 pub use writer::write;
 
 // ---- decoding to 16-bit samples, the channels in turn
 
-// The frames that were put out, or why there are none.
-pub use decode::Decoded;
-// Decodes a whole file: the reader's refusals, 14, 15.
+// Decodes a whole file, and tells how many frames were put out, or why there are none: the reader's refusals, 14, 15.
 pub use decode::decode;
 // Decodes one ADPCM block of a file, with its fill: the reader's refusals, 20, 14, 15.
 pub use decode::decode_block;
 
 // ---- encoding to IMA blocks, and the approval copy
 
-// The blocks, or why there are none.
-pub use encode::Encoded;
 // How many bytes the blocks have, and the chased samples of each channel.
 pub use encode::Coded;
-// Encodes a sound: 1, 9, 10, 14.
+// Encodes a sound, and tells of its blocks, or why there are none: 1, 9, 10, 14.
 pub use encode::encode;
 // The record of an approval copy, a file of such blocks.
 pub use approval::record_of;
 
 // ---- sides
 
-// Adds a song to a side: the song file's refusals, 19, 9, 16, 18, 17, 1, 14.
+// Adds a song to a side, and tells how many bytes the new side has, or why there is none: the song file's refusals, 19, 9,
+// 16, 18, 17, 1, 14.
 pub use side::add;
 // Writes an empty side: 9, 14.
 pub use side::empty;

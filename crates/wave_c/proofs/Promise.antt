@@ -11,27 +11,19 @@ use Rattle.little.specs.Writing.{holding}
 use Rattle.units.specs.declared.Donation.{Donation}
 use Rattle.units.specs.declared.Frames.{Frames}
 use Rattle.units.specs.declared.Refusal.TheVariants.{FormatWrong}
-use Rattle.units.specs.declared.Verdict.{Verdict}
-use Rattle.units.specs.declared.Verdict.TheVariants as verdict
-use Rattle.units.specs.Refusals.{verdict_number}
+use Rattle.units.specs.Refusals.{verdict_number, Verdict}
 use Rattle.units.specs.Checks.{number_by, number_or}
 use Rattle.units.proofs.Checks.{number-row, number-then}
 use Rattle.reader.specs.Content.{reading, sound_in, sound_start, texts_in}
-use Rattle.writer.specs.declared.Written.{Written}
-use Rattle.writer.specs.declared.Written.TheVariants as written
-use Rattle.writer.specs.File.{file_of, writing, written_verdict, written_number}
+use Rattle.writer.specs.File.{file_of, writing, written_verdict, written_number, Written}
 use Rattle.writer.specs.Promise.{write_number}
 use Rattle.writer.specs.Demands.{WriteNumbered}
 use Rattle.writer.proofs.Demands as written-proofs
-use Rattle.decode.specs.declared.Decoded.{Decoded}
-use Rattle.decode.specs.declared.Decoded.TheVariants as decoded
-use Rattle.decode.specs.Decoding.{decoding, block_decoding, file_sound, file_block, decoded_verdict, decoded_number}
+use Rattle.decode.specs.Decoding.{decoding, block_decoding, file_sound, file_block, decoded_verdict, decoded_number, Decoded}
 use Rattle.decode.specs.Demands.{DecodeNumbered, BlockNumbered}
 use Rattle.decode.proofs.Demands as decoded-proofs
-use Rattle.encode.specs.declared.Encoded.{Encoded}
-use Rattle.encode.specs.declared.Encoded.TheVariants as encoded
 use Rattle.encode.specs.Encoding.{encoded_bytes}
-use Rattle.encode.specs.Answer.{encoding, encoded_verdict, encoded_number}
+use Rattle.encode.specs.Answer.{encoding, encoded_verdict, encoded_number, Encoded}
 use Rattle.encode.specs.Demands.{EncodeNumbered}
 use Rattle.encode.proofs.Demands as encoded-proofs
 use Rattle.side.specs.Adding.{new_file, adding, empty_side}
@@ -43,33 +35,35 @@ use Rattle.wave_c.specs.declared.Answer.{Answer}
 use Rattle.wave_c.specs.declared.CodedAnswer.{CodedAnswer}
 use Rattle.wave_c.specs.Interface.{answer_by, of_written, of_decoded, of_encoded, enough, read_verdict, room_for, record_lent, words_valid, words_writing}
 use Rattle.wave_c.specs.Promise.{read_number, CRead, CSound, CWrite, CDecode, CBlock, CEncode, CEmpty, CAdd, OneEach}
+use Rattle.std.specs.Prelude.{Err, Ok}
+use Rattle.rules.specs.Rules.{record_in, reading_verdict}
 
 -- ---- the number of an answer is that of the operation
 by-verdict : (v : Verdict) (n : ℕ) → (answer_by v n).refusal ≡ verdict_number v
-by-verdict verdict.Accepted n = refl
-by-verdict (verdict.Refused r) n = refl
+by-verdict (Ok _) n = refl
+by-verdict (Err r) n = refl
 
 by_written : (x : Written) → (of_written x).refusal ≡ written_number x
-by_written (written.Bytes n) = refl
-by_written (written.Refused r) = refl
+by_written (Ok n) = refl
+by_written (Err r) = refl
 
 by-decoded : (x : Decoded) → (of_decoded x).refusal ≡ decoded_number x
-by-decoded (decoded.Frames n) = refl
-by-decoded (decoded.Refused r) = refl
+by-decoded (Ok n) = refl
+by-decoded (Err r) = refl
 
 by-encoded : (x : Encoded) → (of_encoded x).refusal ≡ encoded_number x
-by-encoded (encoded.Blocks w) = refl
-by-encoded (encoded.Refused r) = refl
+by-encoded (Ok w) = refl
+by-encoded (Err r) = refl
 
 read-row : (n : ℕ) (s : List ℕ) (room : ℕ) → verdict_number (read_verdict n s room) ≡ read_number n s room
 unfolding read_verdict enough number_by
-read-row n s room = number-then (reading s).verdict (enough n room) ∙ ap (number_or (reading s).verdict) (number-row _)
+read-row n s room = number-then (reading_verdict (reading s)) (enough n room) ∙ ap (number_or (reading_verdict (reading s))) (number-row _)
 
 words_row : (w b s : List ℕ) (room : ℕ) → written_number (words_writing w b s room) ≡ cond (words_valid w) (write_number (record_from w) b s room) 9
 unfolding words_writing WriteNumbered
 words_row w b s room = by (words_valid w)
   where
-    by : (x : Bool) → written_number (cond x (writing (record_from w) b s room) (written.Refused FormatWrong)) ≡ cond x (write_number (record_from w) b s room) 9
+    by : (x : Bool) → written_number (cond x (writing (record_from w) b s room) (Err FormatWrong)) ≡ cond x (write_number (record_from w) b s room) 9
     by true = written-proofs.numbered (record_from w) b s room
     by false = refl
 
@@ -79,13 +73,13 @@ refusal_of r = r.refusal
 
 record-row : (s : List ℕ) (words room : ℕ)
     → verdict_number (record_lent s words room)
-    ≡ number_or (reading s).verdict (cond (not (leb 906 words)) 14 (cond (not (leb (length (texts_in s)) room)) 14 0))
+    ≡ number_or (reading_verdict (reading s)) (cond (not (leb 906 words)) 14 (cond (not (leb (length (texts_in s)) room)) 14 0))
 unfolding record_lent room_for number_by
 record-row s words room =
-    number-then (reading s).verdict (room_for (length (texts_in s)) words room) ∙ ap (number_or (reading s).verdict) (number-row _)
+    number-then (reading_verdict (reading s)) (room_for (length (texts_in s)) words room) ∙ ap (number_or (reading_verdict (reading s))) (number-row _)
 
 pub c_read : (s d t : List ℕ) {r : ℕ} {e u : List ℕ} → r ≡ verdict_number (record_lent s (length d) (length t))
-    → e ≡ holding (record_lent s (length d) (length t)) (record_words (reading s).made) d
+    → e ≡ holding (record_lent s (length d) (length t)) (record_words (record_in (reading s))) d
     → u ≡ holding (record_lent s (length d) (length t)) (texts_in s) t → CRead s d t r e u
 c_read s d t f g h = record { answer = f; number = f ∙ record-row s (length d) (length t); words = g; texts = h }
 

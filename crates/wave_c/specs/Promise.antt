@@ -20,17 +20,18 @@ use Rattle.words.specs.Words.{record_words, record_from}
 use Rattle.wave_c.specs.declared.Answer.{Answer}
 use Rattle.wave_c.specs.declared.CodedAnswer.{CodedAnswer}
 use Rattle.wave_c.specs.Interface.{answer_by, of_written, of_decoded, of_encoded, read_verdict, record_lent, words_valid, words_writing}
+use Rattle.rules.specs.Rules.{record_in, reading_verdict}
 
 -- the reader's number, or else 14 where a lent buffer has not n elements
 abbrev pub read_number : ℕ → List ℕ → ℕ → ℕ
-read_number n s room = number_or (reading s).verdict (cond (not (leb n room)) 14 0)
+read_number n s room = number_or (reading_verdict (reading s)) (cond (not (leb n room)) 14 0)
 
 -- `tronalhet_read`: of a file s, with lent words that held d and a lent buffer for texts that held t, the number r; the words then are
 -- e and the buffer holds u
 pub record CRead (s d t : List ℕ) (r : ℕ) (e u : List ℕ) : Type 0 where
   pub answer : r ≡ verdict_number (record_lent s (length d) (length t))
-  pub number : r ≡ number_or (reading s).verdict (cond (not (leb 906 (length d))) 14 (cond (not (leb (length (texts_in s)) (length t))) 14 0))
-  pub words : e ≡ holding (record_lent s (length d) (length t)) (record_words (reading s).made) d
+  pub number : r ≡ number_or (reading_verdict (reading s)) (cond (not (leb 906 (length d))) 14 (cond (not (leb (length (texts_in s)) (length t))) 14 0))
+  pub words : e ≡ holding (record_lent s (length d) (length t)) (record_words (record_in (reading s))) d
   pub texts : u ≡ holding (record_lent s (length d) (length t)) (texts_in s) t
 
 -- `tronalhet_sound`: the same with the number of the sound's bytes, and where they start

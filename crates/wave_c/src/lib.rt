@@ -2,9 +2,10 @@
 // declares them. A refusal is its number, and 0 is success.
 #![tactic(auto)]
 
-ghost use Rattle.std.specs.Prelude.{◌≡◌, [], ◌∷◌, length};
+ghost use Rattle.std.specs.Prelude.{◌≡◌, [], ◌∷◌, length, Ok};
 ghost use Rattle.units.specs.Refusals.{number_of, verdict_number};
 ghost use Rattle.reader.specs.Content.{reading, sound_in, sound_start, titles_spot, texts_in};
+ghost use Rattle.rules.specs.Rules.{record_in};
 ghost use Rattle.riff.specs.Walk.{part_of, start_of};
 ghost use Rattle.little.specs.Writing.{holding};
 ghost use Rattle.writer.specs.File.{file_of, writing, written_verdict};
@@ -17,11 +18,10 @@ ghost use Rattle.wave_c.specs.Interface.{refused_by, done, of_written, of_decode
 ghost use Rattle.wave_c.specs.Interface.{read_verdict, room_for, record_lent, words_valid, words_writing};
 
 use reader::Opened;
-use riff::Spot;
-use units::{Donation, Frames, Refusal, Verdict};
-use wave::{Decoded, Encoded, Written};
+use riff::Place;
+use wave::{BytePlace, Coded, Donation, Frames, Refusal};
 
-// How many bytes or frames there are, or the number of the refusal.
+// How many bytes or frames there are, or the number of the refusal: 0 for none, as the C interface has it.
 #[repr(C)]
 #[derive(Clone, Copy)]
 pub struct Answer {
@@ -65,38 +65,38 @@ fn told(n: usize) -> Answer
     Answer { refusal: 0, n: n }
 }
 
-// What writing answers, and adding.
-fn of_written(answer: Written) -> Answer
+// What writing answers, and adding. This and the next stay two: what they take out of their units is all that they do.
+fn of_written(answer: Result<BytePlace, Refusal>) -> Answer
     ensures answer { result ≡ of_written answer }
 {
     match answer {
-        Written::Bytes(size) => told(size.0),
-        Written::Refused(refusal) => turned_away(refusal),
+        Ok(size) => told(size.0),
+        Err(refusal) => turned_away(refusal),
     }
 }
 
 // What decoding answers.
-fn of_decoded(answer: Decoded) -> Answer
+fn of_decoded(answer: Result<Frames, Refusal>) -> Answer
     ensures answer { result ≡ of_decoded answer }
 {
     match answer {
-        Decoded::Frames(frames) => told(frames.0 as usize),
-        Decoded::Refused(refusal) => turned_away(refusal),
+        Ok(frames) => told(frames.0 as usize),
+        Err(refusal) => turned_away(refusal),
     }
 }
 
 // What encoding answers.
-fn of_encoded(answer: Encoded) -> CodedAnswer
+fn of_encoded(answer: Result<Coded, Refusal>) -> CodedAnswer
     ensures answer { result ≡ of_encoded answer }
 {
     match answer {
-        Encoded::Blocks(coded) => CodedAnswer {
+        Ok(coded) => CodedAnswer {
             refusal: 0,
             left: coded.left.0,
             right: coded.right.0,
             n: coded.bytes.0,
         },
-        Encoded::Refused(refusal) => CodedAnswer {
+        Err(refusal) => CodedAnswer {
             refusal: number_of(refusal),
             left: 0,
             right: 0,
@@ -107,15 +107,16 @@ fn of_encoded(answer: Encoded) -> CodedAnswer
 
 // ---- reading
 
-// Puts the record of a file that was opened and taken, as words from the start of a lent buffer, and the texts of
-// its titles, from the start of another, where there is room for both.
+// Puts the record of a file that was opened, as words from the start of a lent buffer, and the texts of its titles,
+// from the start of another, where there is room for both.
+#[tactic(auto, using(crate::proofs::Laws::putting))]
 fn put_opened(file: &[u8], opened: Opened, out: &mut [u32], texts: &mut [u8]) -> u32
-    requires { (opened.answer ≡ reading file.now) × (opened.titles ≡ titles_spot file.now) }
+    requires { (reading file.now ≡ Ok opened.made) × (opened.titles ≡ titles_spot file.now) }
     ensures answer { result
         ≡ verdict_number (room_for (length (texts_in file.now)) (length out.old) (length texts.old)) }
     ensures words { out.new
         ≡ holding (room_for (length (texts_in file.now)) (length out.old) (length texts.old))
-        (record_words (reading file.now).made) out.old }
+        (record_words opened.made) out.old }
     ensures texts { texts.new
         ≡ holding (room_for (length (texts_in file.now)) (length out.old) (length texts.old))
         (texts_in file.now) texts.old }
@@ -123,56 +124,52 @@ fn put_opened(file: &[u8], opened: Opened, out: &mut [u32], texts: &mut [u8]) ->
     if out.len() < words::WORDS {
         return number_of(Refusal::OutputTooSmall);
     }
-    let spot = opened.titles;
-    let answer = opened.answer;
-    let made = answer.made;
-    let end = titles::texts_end(made.titles);
-    if !reader::put_texts(file, spot, end, texts) {
+    let end = titles::texts_end(opened.made.titles);
+    if !reader::put_texts(file, opened.titles, end, texts) {
         return number_of(Refusal::OutputTooSmall);
     }
     // Most files have no list of titles, and so their record has none.
-    if riff::there(spot) {
-        words::put_record(out, made);
+    if opened.titles.is_some() {
+        words::put_record(out, opened.made);
         return 0;
     }
-    words::put_untitled(out, made);
+    words::put_untitled(out, opened.made);
     0
 }
 
 // The record of a file, as words from the start of a lent buffer, and the texts of its titles, from the start
 // of another. Neither is touched where there is not room for both.
+#[tactic(auto, using(crate::proofs::Laws::record_read))]
 #[unsafe(no_mangle)]
 pub extern "C" fn tronalhet_read(file: &[u8], out: &mut [u32], texts: &mut [u8]) -> u32
     ensures answer { result ≡ verdict_number
         (record_lent file.now (length out.old) (length texts.old)) }
     ensures words { out.new
         ≡ holding (record_lent file.now (length out.old) (length texts.old))
-        (record_words (reading file.now).made) out.old }
+        (record_words (record_in (reading file.now))) out.old }
     ensures texts { texts.new
         ≡ holding (record_lent file.now (length out.old) (length texts.old))
         (texts_in file.now) texts.old }
 {
-    let opened = reader::open(file);
-    let reading = opened.answer;
-    let verdict = reading.verdict;
-    match verdict {
-        Verdict::Refused(refusal) => number_of(refusal),
-        Verdict::Accepted => put_opened(file, opened, out, texts),
+    match reader::open(file) {
+        Ok(opened) => put_opened(file, opened, out, texts),
+        Err(refusal) => number_of(refusal),
     }
 }
 
 // Where a chunk's data start; of a missing chunk, nowhere.
-fn start_of(spot: Spot) -> usize
+fn start_of(spot: Option<Place>) -> usize
     ensures answer { result ≡ start_of spot }
 {
     match spot {
-        Spot::At(place) => place.start.0,
-        Spot::Missing => 0,
+        Some(place) => place.start.0,
+        None => 0,
     }
 }
 
 // Puts where the sound of a file that was taken starts, where there is room for it.
-fn put_start(file: &[u8], spot: Spot, out: &mut [usize]) -> Answer
+#[tactic(auto, using(crate::proofs::Laws::rooming))]
+fn put_start(file: &[u8], spot: Option<Place>, out: &mut [usize]) -> Answer
     ensures answer { result ≡ answer_by (enough 1 (length out.old)) (length (part_of file.now spot [])) }
     ensures buffer { out.new ≡ holding (enough 1 (length out.old)) (start_of spot ∷ []) out.old }
 {
@@ -185,6 +182,7 @@ fn put_start(file: &[u8], spot: Spot, out: &mut [usize]) -> Answer
 }
 
 // Where the sound of a file starts, put to a lent buffer, and how many bytes it has.
+#[tactic(auto, using(crate::proofs::Laws::reading_first))]
 #[unsafe(no_mangle)]
 pub extern "C" fn tronalhet_sound(file: &[u8], out: &mut [usize]) -> Answer
     ensures answer { result ≡ answer_by (read_verdict 1 file.now (length out.old))
@@ -192,29 +190,24 @@ pub extern "C" fn tronalhet_sound(file: &[u8], out: &mut [usize]) -> Answer
     ensures buffer { out.new ≡ holding (read_verdict 1 file.now (length out.old))
         (sound_start file.now ∷ []) out.old }
 {
-    let opened = reader::open(file);
-    let reading = opened.answer;
-    let spot = opened.sound;
-    let verdict = reading.verdict;
-    match verdict {
-        Verdict::Refused(refusal) => turned_away(refusal),
-        Verdict::Accepted => put_start(file, spot, out),
+    match reader::open(file) {
+        Ok(opened) => put_start(file, opened.sound, out),
+        Err(refusal) => turned_away(refusal),
     }
 }
 
 // ---- writing
 
 // Whether there are words enough for a record, and each fits its field.
+#[tactic(auto, unfolding(crate::specs::Interface::words_valid))]
 fn words_valid(given: &[u32]) -> bool
     ensures answer { result ≡ words_valid given.now }
 {
-    if given.len() < words::WORDS {
-        return false;
-    }
-    words::fields_fit(given)
+    words::WORDS <= given.len() && words::fields_fit(given)
 }
 
 // Writes a file of a record, which comes as words, the texts of its titles, and its sound.
+#[tactic(auto, unfolding(crate::specs::Interface::words_writing, crate::specs::Interface::words_valid))]
 #[unsafe(no_mangle)]
 pub extern "C" fn tronalhet_write(
     given: &[u32],
@@ -228,13 +221,11 @@ pub extern "C" fn tronalhet_write(
         (written_verdict (words_writing given.now texts.now sound.now (length out.old)))
         (file_of (record_from given.now) texts.now sound.now) out.old }
 {
-    let valid = words_valid(given);
-    if !valid {
+    if !words_valid(given) {
         return turned_away(Refusal::FormatWrong);
     }
     let made = words::record_from(given);
-    let answer = wave::write(made, texts, sound, out);
-    of_written(answer)
+    of_written(wave::write(made, texts, sound, out))
 }
 
 // ---- decoding and encoding
@@ -246,8 +237,7 @@ pub extern "C" fn tronalhet_decode(file: &[u8], out: &mut [i16]) -> Answer
     ensures buffer { out.new ≡ holding (decoded_verdict (decoding file.now (length out.old)))
         (file_sound file.now) out.old }
 {
-    let answer = wave::decode(file, out);
-    of_decoded(answer)
+    of_decoded(wave::decode(file, out))
 }
 
 // Decodes a block of an ADPCM file, with its fill.
@@ -258,8 +248,7 @@ pub extern "C" fn tronalhet_decode_block(file: &[u8], block: u32, out: &mut [i16
         ≡ holding (decoded_verdict (block_decoding file.now block (length out.old)))
         (file_block file.now block) out.old }
 {
-    let answer = wave::decode_block(file, block, out);
-    of_decoded(answer)
+    of_decoded(wave::decode_block(file, block, out))
 }
 
 // Encodes a sound to IMA blocks.
@@ -275,8 +264,7 @@ pub extern "C" fn tronalhet_encode(
         ≡ holding (encoded_verdict (encoding sound.now channels align (length out.old)))
         (encoded_bytes channels align sound.now) out.old }
 {
-    let answer = wave::encode(sound, channels, align, out);
-    of_encoded(answer)
+    of_encoded(wave::encode(sound, channels, align, out))
 }
 
 // ---- sides
@@ -289,8 +277,7 @@ pub extern "C" fn tronalhet_empty(channels: u16, rate: u32, out: &mut [u8]) -> A
         ≡ holding (written_verdict (writing (empty_side channels rate) [] [] (length out.old)))
         (file_of (empty_side channels rate) [] []) out.old }
 {
-    let answer = wave::empty(channels, rate, out);
-    of_written(answer)
+    of_written(wave::empty(channels, rate, out))
 }
 
 // Adds a song to a side.
@@ -310,6 +297,5 @@ pub extern "C" fn tronalhet_add(
         (adding side.now song.now (record { 0 = number }) (record { 0 = limit }) (length out.old)))
         (new_file side.now song.now (record { 0 = number })) out.old }
 {
-    let answer = wave::add(side, song, Donation(number), Frames(limit), out);
-    of_written(answer)
+    of_written(wave::add(side, song, Donation(number), Frames(limit), out))
 }

@@ -3,18 +3,15 @@
 // FILE may have 262,144 bytes at most; a longer one is `refused 1`. It is held on the stack.
 #![tactic(auto)]
 
-use files::Input;
 use std::io;
 use units::BytePlace;
-use wave::Verdict;
 
 // The verdict on a file.
 fn check(rt: &impl Print, file: &[u8]) -> io::Result<()> {
     let mut texts = files::texts_room();
-    let reading = wave::read(file, &mut texts);
-    match reading.verdict {
-        Verdict::Accepted => show::word(rt, b"accepted\n"),
-        Verdict::Refused(refusal) => listing::refused(rt, refusal),
+    match wave::read(file, &mut texts) {
+        Ok(_) => println!(rt; "accepted"),
+        Err(refusal) => listing::refused(rt, refusal),
     }
 }
 
@@ -23,7 +20,7 @@ fn main(rt: HostRuntime) -> io::Result<()> {
         return Ok(());
     }
     let mut buffer = files::file_room();
-    let Input::Bytes(n) = files::read(&rt, "wave_check", 1, &mut buffer)? else {
+    let Some(n) = files::read(&rt, "wave_check", 1, &mut buffer)? else {
         return Ok(());
     };
     if files::too_long(&rt, n)? {

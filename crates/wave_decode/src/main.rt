@@ -8,11 +8,10 @@
 
 ghost use Rattle.std.specs.Prelude.{◌≤◌};
 
-use files::Input;
 use std::io;
 use std::rt::Runtime;
 use units::BytePlace;
-use wave::{Decoded, Frames, Record, Written};
+use wave::{Frames, Record};
 
 // The channels of a file that was read: it has 1 or 2.
 fn one_or_two(channels: u16) -> u16
@@ -49,12 +48,12 @@ fn keep(rt: &impl Runtime, frames: Frames, file: &[u8]) -> io::Result<()> {
 fn write(rt: &impl Runtime, made: Record, texts: &[u8], sound: &[u8]) -> io::Result<()> {
     let mut out = files::new_room();
     match wave::write(made, texts, sound, &mut out) {
-        Written::Bytes(size) => keep(
+        Ok(size) => keep(
             rt,
             made.frames,
             little::bytes_from(&out, BytePlace(0), size),
         ),
-        Written::Refused(refusal) => listing::refused(rt, refusal),
+        Err(refusal) => listing::refused(rt, refusal),
     }
 }
 
@@ -80,12 +79,14 @@ fn write_sound(
 // Decodes a file.
 fn decode(rt: &impl Runtime, file: &[u8]) -> io::Result<()> {
     let mut texts = files::texts_room();
-    let reading = wave::read(file, &mut texts);
-    let made = reading.made;
+    let made = match wave::read(file, &mut texts) {
+        Ok(made) => made,
+        Err(refusal) => return listing::refused(rt, refusal),
+    };
     let mut sound = files::sound_room();
     match wave::decode(file, &mut sound) {
-        Decoded::Frames(_) => write_sound(rt, plain(made), &texts, &sound),
-        Decoded::Refused(refusal) => listing::refused(rt, refusal),
+        Ok(_) => write_sound(rt, plain(made), &texts, &sound),
+        Err(refusal) => listing::refused(rt, refusal),
     }
 }
 
@@ -94,7 +95,7 @@ fn main(rt: HostRuntime) -> io::Result<()> {
         return Ok(());
     }
     let mut buffer = files::file_room();
-    let Input::Bytes(n) = files::read(&rt, "wave_decode", 1, &mut buffer)? else {
+    let Some(n) = files::read(&rt, "wave_decode", 1, &mut buffer)? else {
         return Ok(());
     };
     if files::too_long(&rt, n)? {

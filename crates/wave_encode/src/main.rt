@@ -7,20 +7,13 @@
 // stack, 3.5 MB.
 #![tactic(auto)]
 
-use files::{Input, Said};
 use std::io;
 use std::rt::Runtime;
 use units::BytePlace;
-use wave::{Coded, Decoded, Encoded, Format, Frames, Record, Written};
+use wave::{Coded, Format, Frames, Record};
 
 // How it is called.
 const USAGE: &str = "wave_encode IN OUT ALIGN";
-
-// The chased samples of one channel.
-fn chased(rt: &impl Print, name: &[u8], count: Frames) -> io::Result<()> {
-    show::field(rt, name, count.0 as u64)?;
-    show::line(rt)
-}
 
 // Puts a file where it is to be, and says what it holds.
 fn keep(rt: &impl Runtime, frames: Frames, told: Coded, file: &[u8]) -> io::Result<()> {
@@ -29,21 +22,21 @@ fn keep(rt: &impl Runtime, frames: Frames, told: Coded, file: &[u8]) -> io::Resu
     }
     listing::frames(rt, frames)?;
     files::size(rt, file)?;
-    chased(rt, b"chased left ", told.left)?;
-    chased(rt, b"chased right ", told.right)
+    println!(rt; "chased left {}", told.left.0)?;
+    println!(rt; "chased right {}", told.right.0)
 }
 
 // Writes the file of a record, which has no titles, and its blocks.
 fn write(rt: &impl Runtime, made: Record, told: Coded, blocks: &[u8]) -> io::Result<()> {
     let mut out = files::new_room();
     match wave::write(made, b"", blocks, &mut out) {
-        Written::Bytes(size) => keep(
+        Ok(size) => keep(
             rt,
             made.frames,
             told,
             little::bytes_from(&out, BytePlace(0), size),
         ),
-        Written::Refused(refusal) => listing::refused(rt, refusal),
+        Err(refusal) => listing::refused(rt, refusal),
     }
 }
 
@@ -57,13 +50,13 @@ fn encode(
 ) -> io::Result<()> {
     let mut out = files::new_room();
     match wave::encode(sound, format.channels, align, &mut out) {
-        Encoded::Blocks(told) => write(
+        Ok(told) => write(
             rt,
             wave::record_of(format.channels, format.rate, align, frames),
             told,
             little::bytes_from(&out, BytePlace(0), told.bytes),
         ),
-        Encoded::Refused(refusal) => listing::refused(rt, refusal),
+        Err(refusal) => listing::refused(rt, refusal),
     }
 }
 
@@ -79,26 +72,27 @@ fn heard(sound: &[i16], frames: Frames, channels: u16) -> &[i16] {
 // Makes the copy of a file.
 fn copy(rt: &impl Runtime, file: &[u8], align: u16) -> io::Result<()> {
     let mut texts = files::texts_room();
-    let reading = wave::read(file, &mut texts);
-    let made = reading.made;
-    let format = made.format;
+    let format = match wave::read(file, &mut texts) {
+        Ok(made) => made.format,
+        Err(refusal) => return listing::refused(rt, refusal),
+    };
     let mut sound = files::sound_room();
     match wave::decode(file, &mut sound) {
-        Decoded::Frames(frames) => encode(
+        Ok(frames) => encode(
             rt,
             format,
             frames,
             heard(&sound, frames, format.channels),
             align,
         ),
-        Decoded::Refused(refusal) => listing::refused(rt, refusal),
+        Err(refusal) => listing::refused(rt, refusal),
     }
 }
 
 // Reads the file to be copied.
 fn start(rt: &impl Runtime, align: u16) -> io::Result<()> {
     let mut buffer = files::file_room();
-    let Input::Bytes(n) = files::read(rt, "wave_encode", 1, &mut buffer)? else {
+    let Some(n) = files::read(rt, "wave_encode", 1, &mut buffer)? else {
         return Ok(());
     };
     if files::too_long(rt, n)? {
@@ -115,7 +109,7 @@ fn main(rt: HostRuntime) -> io::Result<()> {
     if !files::called(&rt, 4, USAGE)? {
         return Ok(());
     }
-    let Said::Number(align) = files::number(&rt, 3, 65535, USAGE)? else {
+    let Some(align) = files::number(&rt, 3, 65535, USAGE)? else {
         return Ok(());
     };
     // It is at most 65,535, so nothing of it is cut off.

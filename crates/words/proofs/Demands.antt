@@ -1,22 +1,22 @@
 -- The words of a record say it again: each number stands where it is taken from, whatever follows. Assumes nothing.
 use mathlib.Core.Path.{◌≡◌, refl, sym, ap, ◌∙◌}
-use mathlib.Core.List.{List, [], ◌∷◌, ◌++◌, append_assoc, append-nil}
-use Prim.Native.Nat.{ℕ, suc, ◌+◌, ◌-◌, ◌*◌, ◌≤◌, ◌<◌}
+use mathlib.Core.List.{List, [], ◌∷◌, ◌++◌, append_assoc}
+use Prim.Native.Nat.{ℕ, suc, ◌+◌, ◌*◌, ◌≤◌, ◌<◌}
 use native.Mathlib.Nat.{add-zero, mul-le-mul_left}
 use native.Mathlib.Omega.{arith}
-use lib.ListN.{length, take, drop, get_or, set, replicate, length-append}
-use lib.Seq.{drop_at, drop-append-add, drop-append-le, get_or-drop, take_all}
+use lib.ListN.{length, drop, get_or, set, replicate, length-append}
+use lib.Seq.{drop_at, drop-append-add, drop-append-le, get_or-drop}
 use Rattle.tables.specs.Bytes.{entry_bytes}
 use Rattle.tables.specs.Cues.{no_cue}
 use Rattle.tables.specs.Plays.{no_play}
-use Rattle.tables.proofs.Back.{entries-kept}
+use Rattle.std.proofs.lemmas.List.{get_or_default}
 use Rattle.tables.proofs.Lengths.{entries-long, entry-from}
 use Rattle.titles.specs.Titles.{no_title}
 use Rattle.rules.specs.declared.Record.{Record}
 use Rattle.words.specs.Words.{head_words, cue_words, play_words, title_words, titles_words, table_words, record_words}
 use Rattle.words.specs.Words.{word, format_from, cue_from, cues_from, play_from, entries_from, title_from, titles_from, record_from}
 use Rattle.words.specs.Demands.{Roomy, Long, WordsBack}
-use Rattle.words.proofs.Laws.{cue-long, play-long, title-long, tables-long, titles-long}
+use Rattle.words.proofs.Laws.{many_said, cue-long, play-long, title-long, tables-long, titles-long}
 
 pub long : Long
 unfolding Long record_words
@@ -50,15 +50,14 @@ module _ {A : Type 0} (none : A) (size : ℕ) (words : A → List ℕ) (read : L
       → ((k : ℕ) → many (suc k) ≡ set (many k) k (read w (at + size * k))) → many 0 ≡ replicate n none → length list ≡ n
       → length before ≡ at → w ≡ before ++ (entry_bytes words list ++ rest) → many n ≡ list
   list_back {n} many at w before rest list more begin h b e =
-      let z : n - n ≡ 0 = omega arith in
-      entries-kept none many (λ k. read w (at + size * k)) list more begin h n (omega arith)
-      (λ k g.
-      ap (λ (v : List ℕ). read v (at + size * k)) e
+      sym
+      (many_said none n many (λ k. read w (at + size * k)) list more begin h
+      (λ k g x.
+      get_or_default list k x none (omega arith)
+      ∙ sym
+      (ap (λ (v : List ℕ). read v (at + size * k)) e
       ∙ ap (λ (l : ℕ). read (before ++ (entry_bytes words list ++ rest)) (l + size * k)) (sym b)
-      ∙ entry-back before rest list k (omega arith))
-      ∙ ap (λ (k : ℕ). take n list ++ replicate k none) z
-      ∙ append-nil (take n list)
-      ∙ take_all n list (omega arith)
+      ∙ entry-back before rest list k (omega arith))))
 
 -- ---- one entry
 cue-here : (w : List ℕ) (at : ℕ) → cue_from w at ≡ cue_from (drop at w) 0

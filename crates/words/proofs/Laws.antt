@@ -1,28 +1,29 @@
 -- Laws of a record's words, in the words of the code. Assumes nothing.
 use mathlib.Core.Path.{◌≡◌, refl, sym, ap, ◌∙◌, subst}
 use mathlib.Core.Bool.{Bool, true}
-use mathlib.Core.List.{List, [], ◌∷◌, ◌++◌}
-use Prim.Native.Nat.{ℕ, zero, suc, ◌+◌, ◌*◌, ◌≤◌, ◌<◌}
+use mathlib.Core.List.{List, [], ◌∷◌, ◌++◌, append-nil}
+use Prim.Native.Nat.{ℕ, zero, suc, ◌+◌, ◌-◌, ◌*◌, ◌≤◌, ◌<◌}
+use native.Mathlib.Nat.{mul-zero, mul-le-mul_left}
 use native.Mathlib.Omega.{arith}
-use lib.ListN.{length, get_or, set, replicate, length-append, length-set, length-replicate, replicate-append-replicate}
+use lib.ListN.{length, take, get_or, set, replicate, length-append, length-replicate}
 use lib.Dec.{ltb}
 use lib.Seq.{take_all}
 use Rattle.formats.specs.declared.Format.{Format}
 use borrow.Author.Tests.{ltb-true}
+use Rattle.std.proofs.Common.{below_more, get_or-set_other, get_or-set_same, ◌≢◌}
 use Rattle.little.specs.Writing.{Put, front}
-use Rattle.little.proofs.Filling.{put-long, put-nothing, one_store, put_next, put_front}
+use borrow.Rule.Slice.PartMut.{put_mid}
+use Rattle.little.proofs.Filling.{Written, write-begins, write-piece, write-ends, put-long, put_next, put_front, put_part}
 use Rattle.lists.specs.Every.{all_below}
 use Rattle.lists.proofs.Laws.{every-at}
 use Rattle.tables.specs.declared.Cue.{Cue}
-use Rattle.tables.specs.declared.Cues.{Cues}
 use Rattle.tables.specs.declared.Play.{Play}
-use Rattle.tables.specs.declared.Playlist.{Playlist}
 use Rattle.tables.specs.Bytes.{entry_bytes}
-use Rattle.tables.specs.Cues.{no_cues}
-use Rattle.tables.specs.Plays.{no_plays}
-use Rattle.tables.proofs.Entries.{Listed, list-next, list-ends}
-use Rattle.tables.proofs.Putting.{Entered, entries-begin, entry-room, entry_next, entries-end, array_long}
-use Rattle.tables.proofs.Lengths.{entries-long}
+use Rattle.tables.specs.Cues.{no_cue}
+use Rattle.tables.specs.Plays.{no_play}
+use Rattle.tables.proofs.Putting.{array_long}
+use Rattle.tables.proofs.Back.{entries-kept}
+use Rattle.tables.proofs.Lengths.{entries-long, entry-from}
 use Rattle.titles.specs.declared.Title.{Title}
 use Rattle.titles.specs.declared.Titles.{Titles}
 use Rattle.titles.specs.Titles.{no_title, no_titles}
@@ -62,32 +63,65 @@ module _ (w : List ℕ) (f : fields_fit w ≡ true) where
 
 pub ruleset fitting = (fields-asked, tag_fits, channels-fit, bits_fit, align_fits, samples-fit)
 
--- ---- the tables taken from words
+-- ---- a table taken from words: many k is the definition's list with its first k entries taken
+pub many_said : {A : Type 0} (none : A) (n : ℕ) (many : ℕ → List A) (entry : ℕ → A) (list : List A)
+    → ((k : ℕ) → many (suc k) ≡ set (many k) k (entry k)) → many 0 ≡ replicate n none → length list ≡ n
+    → ((k : ℕ) → k < n → (x : A) → get_or list k x ≡ entry k) → list ≡ many n
+many_said none n many entry list more begin h f =
+    let z : n - n ≡ 0 = omega arith in
+    sym
+    (entries-kept none many entry list more begin h n (omega arith) (λ k g. sym (f k g none))
+    ∙ ap (λ (k : ℕ). take n list ++ replicate k none) z
+    ∙ append-nil (take n list)
+    ∙ take_all n list (omega arith))
+
 module _ (w : List ℕ) where
-  pub cues-begin : {c : Cues} → c ≡ no_cues → Listed (cues_from w) (λ k. cue_from w (9 + 3 * k)) 64 0 c.list
+  pub cues_taken : (list : List Cue) → length list ≡ 64 → ((k : ℕ) → k < 64 → (x : Cue) → get_or list k x ≡ cue_from w (9 + 3 * k)) → list ≡ cues_from w 64
   unfolding cues_from
-  cues-begin e = record { upto = omega arith; more = λ k. refl; same = ap (λ (c : Cues). c.list) e }
+  cues_taken list = many_said no_cue 64 (cues_from w) (λ k. cue_from w (9 + 3 * k)) list (λ k. refl) refl
 
-  pub plays-begin : {p : Playlist} → p ≡ no_plays → Listed (entries_from w) (λ k. play_from w (201 + 3 * k)) 64 0 p.list
+  pub plays_taken : (list : List Play) → length list ≡ 64 → ((k : ℕ) → k < 64 → (x : Play) → get_or list k x ≡ play_from w (201 + 3 * k)) → list ≡ entries_from w 64
   unfolding entries_from
-  plays-begin e = record { upto = omega arith; more = λ k. refl; same = ap (λ (p : Playlist). p.list) e }
+  plays_taken list = many_said no_play 64 (entries_from w) (λ k. play_from w (201 + 3 * k)) list (λ k. refl) refl
 
-  pub titles-begin : {t : Titles} → t ≡ no_titles → Listed (titles_from w) (λ k. title_from w (394 + 4 * k)) 128 0 t.list
+  pub titles_taken : (list : List Title) → length list ≡ 128 → ((k : ℕ) → k < 128 → (x : Title) → get_or list k x ≡ title_from w (394 + 4 * k)) → list ≡ titles_from w 128
   unfolding titles_from
-  titles-begin e = record { upto = omega arith; more = λ k. refl; same = ap (λ (t : Titles). t.list) e }
+  titles_taken list = many_said no_title 128 (titles_from w) (λ k. title_from w (394 + 4 * k)) list (λ k. refl) refl
 
-  pub cues-end : {i : ℕ} {entry : ℕ → Cue} {list : List Cue} → Listed (cues_from w) entry 64 i list → 64 ≤ i → list ≡ cues_from w 64
-  cues-end l h = list-ends l h
+-- one entry more is taken, where f says each
+pub entry_taken : {A : Type 0} (f : ℕ → A) (list : List A) (i : ℕ) {v : A} → ((k : ℕ) → k < i → (x : A) → get_or list k x ≡ f k) → i < length list → v ≡ f i
+    → (k : ℕ) → k < i + 1 → (x : A) → get_or (set list i v) k x ≡ f k
+entry_taken f list i {v} w h e =
+    below_more (λ k. (x : _) → get_or (set list i v) k x ≡ f k) i
+    (λ k g x. let ne : k ≢ i = omega arith in rw get_or-set_other (w k g x))
+    (λ x. rw get_or-set_same e)
 
-  pub plays-end : {i : ℕ} {entry : ℕ → Play} {list : List Play} → Listed (entries_from w) entry 64 i list → 64 ≤ i → list ≡ entries_from w 64
-  plays-end l h = list-ends l h
+pub ruleset taking = (cues_taken, plays_taken, titles_taken)
 
-  pub titles-end : {i : ℕ} {entry : ℕ → Title} {list : List Title} → Listed (titles_from w) entry 128 i list → 128 ≤ i → list ≡ titles_from w 128
-  titles-end l h = list-ends l h
+-- ---- a table put into words, or taken from them: each entry has its own, as many as every other
+pub entry_room : (size at : ℕ) {i n m : ℕ} → i < n → at + size * n ≤ m → at + size * i + size ≤ m
+entry_room size at {i} {n} h k = let l : size * (i + 1) ≤ size * n = mul-le-mul_left size (omega arith) in omega arith
 
-pub ruleset listing = (cues-begin, plays-begin, titles-begin, list-next, cues-end, plays-end, titles-end)
+module _ {A : Type 0} (words : A → List ℕ) (size : ℕ) (fixed : (x : A) → length (words x) ≡ size) (list : List A) {at : ℕ} where
+  pub list_begins : {d : List ℕ} → at + size * length list ≤ length d → Written (entry_bytes words list) at (size * 0) d d
+  list_begins h = rw (mul-zero size) (write-begins (omega (arith, entries-long words size fixed list)))
 
--- ---- the tables put into words, three for each entry and four for each title
+  module _ {d d₀ : List ℕ} (i : ℕ) (w : Written (entry_bytes words list) at (size * i) d d₀) where
+    pub list_room : i < length list → at + size * i + size ≤ length d
+    list_room h = entry_room size at h (omega (arith, w.room, w.filled.long, entries-long words size fixed list))
+
+    pub list_next : {e ys : List ℕ} {x : A} → i < length list → x ≡ get_or list i x → Put d (at + size * i) ys e → ys ≡ words x
+        → Written (entry_bytes words list) at (size * (i + 1)) e d₀
+    list_next {e} {ys} {x} h g p q =
+        write-piece w (subst (λ (l : List ℕ). Put d (at + size * i) l e) (q ∙ ap words g) p) (entry-from words size fixed list i x h)
+        (omega (arith, fixed (get_or list i x)))
+        (let l : size * (i + 1) ≤ size * length list = mul-le-mul_left size (omega arith) in omega (arith, entries-long words size fixed list))
+
+    pub list_ends : length list ≤ i → Put d₀ at (entry_bytes words list) d
+    list_ends h = let l : size * length list ≤ size * i = mul-le-mul_left size h in write-ends w (omega (arith, entries-long words size fixed list))
+
+pub ruleset listing = (list_begins, list_room, list_next, list_ends)
+
 pub cue-long : (c : Cue) → length (cue_words c) ≡ 3
 cue-long c = refl
 
@@ -96,13 +130,6 @@ play-long p = refl
 
 pub title-long : (t : Title) → length (title_words t) ≡ 4
 title-long t = refl
-
-pub all_end : {A : Type 0} {words : A → List ℕ} {size n : ℕ} {list : List A} {i at : ℕ} {d d₀ : List ℕ} → Entered words size list n i at d d₀ → n ≤ i
-    → length list ≡ n → Put d₀ at (entry_bytes words list) d
-all_end {A} {words} {size} {n} {list} {i} {at} {d} {d₀} w h l =
-    subst (λ (es : List A). Put d₀ at (entry_bytes words es) d) (take_all n list (omega arith)) (entries-end w h)
-
-pub ruleset entering = (cue-long, play-long, title-long, array_long, entries-begin, entry-room, entry_next, all_end)
 
 -- ---- the whole record
 module _ (cues : List Cue) (plays : List Play) (h : length cues ≡ 64) (l : length plays ≡ 64) where
@@ -115,14 +142,9 @@ module _ (cues : List Cue) (plays : List Play) (h : length cues ≡ 64) (l : len
   pub tables-long : length (entry_bytes cue_words cues ++ entry_bytes play_words plays) ≡ 384
   tables-long = omega (arith, cues-long, plays-long, length-append (entry_bytes cue_words cues) (entry_bytes play_words plays))
 
-  module _ {d e : List ℕ} (r : 906 ≤ length d) (p : Put d 9 (entry_bytes cue_words cues) e) where
-    pub plays-room : 201 + 3 * 64 ≤ length e
-    plays-room = omega (arith, put-long p (omega (arith, cues-long)))
-
-    pub tables-put : {f : List ℕ} → Put e 201 (entry_bytes play_words plays) f → Put d 9 (entry_bytes cue_words cues ++ entry_bytes play_words plays) f
-    tables-put q = put_next p q (omega (arith, cues-long)) (omega (arith, cues-long, plays-long))
-
-pub ruleset tables-putting = (array_long, plays-room, tables-put)
+  tables-put : {d e f : List ℕ} → 393 ≤ length d → Put d 9 (entry_bytes cue_words cues) e → Put e 201 (entry_bytes play_words plays) f
+      → Put d 9 (entry_bytes cue_words cues ++ entry_bytes play_words plays) f
+  tables-put r p q = put_next p q (omega (arith, cues-long)) (omega (arith, cues-long, plays-long))
 
 module _ (t : Titles) where
   pub titles-long : length t.list ≡ 128 → length (titles_words t) ≡ 513
@@ -137,51 +159,21 @@ module _ (t : Titles) where
     unfolding titles_words
     titles-put h q = put_next p q refl (omega (arith, entries-long title_words 4 title-long t.list))
 
-pub ruleset titles-putting = (array_long, title-list-room, titles-put)
+pub ruleset titles_putting = (array_long, title-list-room, titles-put)
 
 -- ---- a word again and again
--- of n times, i are done
-pub record Repeated (word n at i : ℕ) (d d₀ : List ℕ) : Type 0 where
-  pub upto : i ≤ n
-  pub put : Put d₀ at (replicate i word) d
-  pub long : length d ≡ length d₀
-
-module _ {word n at : ℕ} where
-  pub same-begins : {d : List ℕ} → Repeated word n at 0 d d
-  same-begins = record { upto = omega arith; put = put-nothing; long = refl }
-
-  module _ {i : ℕ} {d d₀ : List ℕ} (w : Repeated word n at i d d₀) where
-    pub same-room : i < n → at + n ≤ length d₀ → at + i < length d
-    same-room h r = omega (arith, w.long)
-
-    pub same_next : i < n → at + n ≤ length d₀ → Repeated word n at (i + 1) (set d (at + i) word) d₀
-    same_next h r =
-        let l = length-replicate i word in
-        let q : Put d (at + i) (word ∷ []) (set d (at + i) word) = one_store (omega (arith, w.long)) in
-        let p = put_next w.put q (omega (arith, l)) (omega arith) in
-        record {
-          upto = omega arith;
-          put = subst (λ (ys : List ℕ). Put d₀ at ys (set d (at + i) word)) (replicate-append-replicate i 1 word) p;
-          long = length-set d (at + i) word ∙ w.long;
-        }
-
-    pub same_ends : n ≤ i → Put d₀ at (replicate n word) d
-    same_ends h = let e : i ≡ n = omega (arith, w.upto) in subst (λ (k : ℕ). Put d₀ at (replicate k word) d) e w.put
-
-pub ruleset repeating = (same-begins, same-room, same_next, same_ends)
+pub same_put : {d ys : List ℕ} (at n k word : ℕ) → at + n ≤ length d → k ≡ n → ys ≡ replicate n word → Put d at (replicate n word) (put_mid at k d ys)
+same_put {d} {ys} at n k word h g e =
+    subst (λ (l : List ℕ). Put d at l (put_mid at k d ys)) e (put_part at k (ap length e ∙ length-replicate n word ∙ sym g))
 
 -- ---- the record
-module _ (m : Record) {d e head : List ℕ} (r : 906 ≤ length d) (t : head ≡ head_words m) (p : Put d 0 head e) where
-  headed : Put d 0 (head_words m) e
-  headed = subst (λ (ys : List ℕ). Put d 0 ys e) t p
-
-  pub tables-room : 906 ≤ length e
-  tables-room = omega (arith, put-long headed (omega arith))
-
-  pub before-put : {f : List ℕ} → RecordFits m → Put e 9 (table_words m) f → Put d 0 (head_words m ++ table_words m) f
-  before-put h q = put_next headed q refl (omega (arith, tables-long m.cues.list m.playlist.list h.cues.room h.plays.room))
-
-pub ruleset before-titles = (record-typed, tables-room, before-put)
+pub before_put : (m : Record) {d e f g head : List ℕ} → 906 ≤ length d → head ≡ head_words m → Put d 0 head e
+    → Put e 9 (entry_bytes cue_words m.cues.list) f → Put f 201 (entry_bytes play_words m.playlist.list) g
+    → length m.cues.list ≡ 64 → length m.playlist.list ≡ 64 → Put d 0 (head_words m ++ table_words m) g
+before_put m {d} {e} r t p q s h k =
+    let headed : Put d 0 (head_words m) e = subst (λ (ys : List ℕ). Put d 0 ys e) t p in
+    put_next headed (tables-put m.cues.list m.playlist.list h k (omega (arith, put-long headed (omega arith))) q s) refl
+    (omega (arith, tables-long m.cues.list m.playlist.list h k))
 
 -- no titles are 513 zeros, as many as their number
 blank-titles : (n : ℕ) → entry_bytes title_words (replicate n no_title) ≡ replicate (4 * n) 0
@@ -210,15 +202,15 @@ module _ (m : Record) {d f : List ℕ} (r : 906 ≤ length d) (h : RecordFits m)
       zeros : replicate 513 m.titles.count ≡ titles_words m.titles
       zeros = ap (λ (t : Titles). replicate 513 t.count) e ∙ sym (ap titles_words e ∙ ap (λ (ys : List ℕ). 0 ∷ ys) (blank-titles 128))
 
-pub ruleset record-putting = (record-typed, titles-room, record-put, untitled-put)
+pub ruleset record_putting = (record-typed, titles-room, record-put, untitled-put)
 
 -- ---- the record taken from words
-pub format-said : (w : List ℕ) {a b c d e : ℕ} → a ≡ word w 0 → b ≡ word w 1 → c ≡ word w 3 → d ≡ word w 4 → e ≡ word w 5
+pub format_said : (w : List ℕ) {a b c d e : ℕ} → a ≡ word w 0 → b ≡ word w 1 → c ≡ word w 3 → d ≡ word w 4 → e ≡ word w 5
     → record { tag = a; channels = b; rate = word w 2; bits = c; align = d; samples = e } ≡ format_from w
 unfolding format_from
-format-said w f g h i j = simp (f, g, h, i, j)
+format_said w f g h i j = simp (f, g, h, i, j)
 
-pub record-said : (w : List ℕ) {f : Format} {c : List Cue} {p : List Play} {t : List Title} → f ≡ format_from w → c ≡ cues_from w 64 → p ≡ entries_from w 64
+pub record_said : (w : List ℕ) {f : Format} {c : List Cue} {p : List Play} {t : List Title} → f ≡ format_from w → c ≡ cues_from w 64 → p ≡ entries_from w 64
     → t ≡ titles_from w 128
     → record {
       format = f;
@@ -228,6 +220,4 @@ pub record-said : (w : List ℕ) {f : Format} {c : List Cue} {p : List Play} {t 
       titles = record { count = word w 393; list = t };
     } ≡ record_from w
 unfolding record_from
-record-said w e g h j = simp (e, g, h, j)
-
-pub ruleset saying = (format-said, record-said)
+record_said w e g h j = simp (e, g, h, j)

@@ -3,7 +3,7 @@
 // 64 entries of three words each; number of titles, and 128 titles of four words each.
 #![tactic(auto)]
 
-ghost use Rattle.std.specs.Prelude.{◌≡◌, true, ◌++◌, ◌+◌, ◌*◌, ◌≤◌, ◌<◌, length, replicate};
+ghost use Rattle.std.specs.Prelude.{◌≡◌, refl, ℕ, List, true, ◌++◌, ◌+◌, ◌*◌, ◌≤◌, ◌<◌, length, replicate, slice_index_or};
 ghost use Rattle.little.specs.Writing.{Put, front};
 ghost use Rattle.tables.specs.Bytes.{entry_bytes};
 ghost use Rattle.titles.specs.Titles.{no_titles};
@@ -22,147 +22,159 @@ pub const WORDS: usize = 906;
 // ---- a record put into words
 
 // The words before the tables.
-fn head_words(made: Record) -> [u32; 9]
-    ensures answer { result ≡ head_words made }
+fn head_words(made: &Record) -> [u32; 9]
+    ensures answer { result ≡ head_words made.now }
 {
     let format = made.format;
-    let cues = made.cues;
-    let playlist = made.playlist;
     [
-        format.tag as u32,
-        format.channels as u32,
+        format.tag.into(),
+        format.channels.into(),
         format.rate,
-        format.bits as u32,
-        format.align as u32,
-        format.samples as u32,
+        format.bits.into(),
+        format.align.into(),
+        format.samples.into(),
         made.frames.0,
-        cues.count,
-        playlist.count,
+        made.cues.count,
+        made.playlist.count,
     ]
 }
 
 // Puts words at a place.
+#[tactic(auto, using(little::proofs::Filling::put_part))]
 fn put_words(out: &mut [u32], at: usize, words: &[u32])
     requires { at + length words.now ≤ length out.old }
     ensures buffer { Put out.old at words.now out.new }
 {
-    let mut i = 0;
-    while i < words.len() {
-        out[at + i] = words[i];
-        i += 1;
+    out[at..at + words.len()].copy_from_slice(words);
+}
+
+// What a record has a list of: a cue, a playlist entry or a title, each in N words.
+trait Worded<const N: usize>: Copy {
+    ghost words_of: { Self → List ℕ };
+
+    ghost said_at: { List ℕ → ℕ → Self };
+
+    // Its words.
+    fn words(&self) -> [u32; N]
+        ensures { result ≡ words_of self.now };
+
+    // What the words at a place say.
+    fn said(words: &[u32], at: usize) -> Self
+        requires { at + N ≤ length words.now }
+        ensures { result ≡ said_at words.now at };
+
+    ghost all_long: { (x : Self) → length (words_of x) ≡ N };
+}
+
+impl Worded<3> for Cue {
+    ghost words_of = { cue_words };
+
+    ghost said_at = { cue_from };
+
+    fn words(&self) -> [u32; 3] {
+        [self.name.0, self.position.0, self.place.0]
+    }
+
+    fn said(words: &[u32], at: usize) -> Cue {
+        Cue {
+            name: Donation(words[at]),
+            position: Frames(words[at + 1]),
+            place: Frames(words[at + 2]),
+        }
+    }
+
+    ghost all_long = { λ x. refl };
+}
+
+impl Worded<3> for Play {
+    ghost words_of = { play_words };
+
+    ghost said_at = { play_from };
+
+    fn words(&self) -> [u32; 3] {
+        [self.name.0, self.length.0, self.times]
+    }
+
+    fn said(words: &[u32], at: usize) -> Play {
+        Play {
+            name: Donation(words[at]),
+            length: Frames(words[at + 1]),
+            times: words[at + 2],
+        }
+    }
+
+    ghost all_long = { λ x. refl };
+}
+
+impl Worded<4> for Title {
+    ghost words_of = { title_words };
+
+    ghost said_at = { title_from };
+
+    fn words(&self) -> [u32; 4] {
+        [self.kind, self.name.0, self.start.0, self.length.0]
+    }
+
+    fn said(words: &[u32], at: usize) -> Title {
+        Title {
+            kind: words[at],
+            name: Donation(words[at + 1]),
+            start: TextPlace(words[at + 2]),
+            length: TextPlace(words[at + 3]),
+        }
+    }
+
+    ghost all_long = { λ x. refl };
+}
+
+// Puts a list, its entries one behind the other.
+#[tactic(auto, using(crate::proofs::Laws::entry_room))]
+fn put_list<T: Worded<N>, const N: usize>(out: &mut [u32], at: usize, list: &[T])
+    requires { at + N * length list.now ≤ length out.old }
+    ensures buffer { Put out.old at (entry_bytes T.words_of list.now) out.new }
+{
+    for (i, entry) in list.iter().enumerate() {
+        put_words(out, at + N * i, &entry.words());
     }
 }
 
-// Puts a cue.
-fn put_cue(out: &mut [u32], at: usize, cue: Cue)
-    requires { at + 3 ≤ length out.old }
-    ensures buffer { Put out.old at (cue_words cue) out.new }
+// Takes a list from words, its entries one behind the other from a place on.
+#[tactic(auto, using(crate::proofs::Laws::entry_room))]
+fn take_list<T: Worded<N>, const N: usize>(words: &[u32], at: usize, list: &mut [T])
+    requires { at + N * length list.old ≤ length words.now }
+    ensures entries { (k : ℕ) → k < length list.old → (x : T) → slice_index_or list.new k x ≡ T.said_at words.now (at + N * k) }
 {
-    let words = [cue.name.0, cue.position.0, cue.place.0];
-    put_words(out, at, &words);
-}
-
-// Puts a playlist entry.
-fn put_play(out: &mut [u32], at: usize, play: Play)
-    requires { at + 3 ≤ length out.old }
-    ensures buffer { Put out.old at (play_words play) out.new }
-{
-    let words = [play.name.0, play.length.0, play.times];
-    put_words(out, at, &words);
-}
-
-// Puts a title.
-fn put_title(out: &mut [u32], at: usize, title: Title)
-    requires { at + 4 ≤ length out.old }
-    ensures buffer { Put out.old at (title_words title) out.new }
-{
-    let words = [title.kind, title.name.0, title.start.0, title.length.0];
-    put_words(out, at, &words);
-}
-
-// Puts 64 cues, one behind the other.
-fn put_cues(out: &mut [u32], at: usize, list: [Cue; 64])
-    requires { at + 3 * 64 ≤ length out.old }
-    ensures buffer { Put out.old at (entry_bytes cue_words list) out.new }
-{
-    let mut i = 0;
-    while i < 64 {
-        let cue = list[i];
-        put_cue(out, at + 3 * i, cue);
-        i += 1;
-    }
-}
-
-// Puts 64 playlist entries, one behind the other.
-fn put_plays(out: &mut [u32], at: usize, list: [Play; 64])
-    requires { at + 3 * 64 ≤ length out.old }
-    ensures buffer { Put out.old at (entry_bytes play_words list) out.new }
-{
-    let mut i = 0;
-    while i < 64 {
-        let play = list[i];
-        put_play(out, at + 3 * i, play);
-        i += 1;
-    }
-}
-
-// Puts 128 titles, one behind the other.
-fn put_title_list(out: &mut [u32], at: usize, list: [Title; 128])
-    requires { at + 4 * 128 ≤ length out.old }
-    ensures buffer { Put out.old at (entry_bytes title_words list) out.new }
-{
-    let mut i = 0;
-    while i < 128 {
-        let title = list[i];
-        put_title(out, at + 4 * i, title);
-        i += 1;
+    for i in 0..list.len() {
+        list[i] = T::said(words, at + N * i);
     }
 }
 
 // Puts the number of titles, and behind it the titles.
-fn put_titles(out: &mut [u32], titles: Titles)
+fn put_titles(out: &mut [u32], titles: &Titles)
     requires { 906 ≤ length out.old }
-    ensures buffer { Put out.old 393 (titles_words titles) out.new }
+    ensures buffer { Put out.old 393 (titles_words titles.now) out.new }
 {
-    let list = titles.list;
-    let words = [titles.count];
-    put_words(out, 393, &words);
-    put_title_list(out, 394, list);
-}
-
-// Puts the cues and the entries, behind the words before them.
-fn put_tables(out: &mut [u32], cues: [Cue; 64], plays: [Play; 64])
-    requires { 906 ≤ length out.old }
-    ensures buffer { Put out.old 9 (entry_bytes cue_words cues ++ entry_bytes play_words plays) out.new }
-{
-    put_cues(out, 9, cues);
-    put_plays(out, 201, plays);
+    put_words(out, 393, &[titles.count]);
+    put_list(out, 394, &titles.list);
 }
 
 // Puts a word n times from a place on.
+#[tactic(auto, using(crate::proofs::Laws::same_put))]
 fn put_same(out: &mut [u32], at: usize, n: usize, word: u32)
     requires { at + n ≤ length out.old }
     ensures buffer { Put out.old at (replicate n word) out.new }
 {
-    let mut i = 0;
-    while i < n {
-        out[at + i] = word;
-        i += 1;
-    }
+    out[at..at + n].fill(word);
 }
 
 // Puts what stands before the titles.
-fn put_before_titles(out: &mut [u32], made: Record)
+fn put_before_titles(out: &mut [u32], made: &Record)
     requires { 906 ≤ length out.old }
-    ensures buffer { Put out.old 0 (head_words made ++ table_words made) out.new }
+    ensures buffer { Put out.old 0 (head_words made.now ++ table_words made.now) out.new }
 {
-    let cues = made.cues;
-    let playlist = made.playlist;
-    let cue_list = cues.list;
-    let play_list = playlist.list;
-    let head = head_words(made);
-    put_words(out, 0, &head);
-    put_tables(out, cue_list, play_list);
+    put_words(out, 0, &head_words(made));
+    put_list(out, 9, &made.cues.list);
+    put_list(out, 201, &made.playlist.list);
 }
 
 // Puts a record from the start of a lent buffer.
@@ -170,9 +182,8 @@ pub fn put_record(out: &mut [u32], made: Record)
     requires { 906 ≤ length out.old }
     ensures buffer { out.new ≡ front (record_words made) out.old }
 {
-    let titles = made.titles;
-    put_before_titles(out, made);
-    put_titles(out, titles);
+    put_before_titles(out, &made);
+    put_titles(out, &made.titles);
 }
 
 // The same for a record that has no titles. All 513 words of titles are then what their number is, and the list
@@ -181,14 +192,14 @@ pub fn put_untitled(out: &mut [u32], made: Record)
     requires { (906 ≤ length out.old) × (made.titles ≡ no_titles) }
     ensures buffer { out.new ≡ front (record_words made) out.old }
 {
-    let titles = made.titles;
-    put_before_titles(out, made);
-    put_same(out, 393, 513, titles.count);
+    put_before_titles(out, &made);
+    put_same(out, 393, 513, made.titles.count);
 }
 
 // ---- a record taken from words
 
 // Whether every word of a field of 16 bits fits it.
+#[tactic(auto, unfolding(crate::specs::Words::fields_fit))]
 pub fn fields_fit(words: &[u32]) -> bool
     requires { 906 ≤ length words.now }
     ensures answer { result ≡ fields_fit words.now }
@@ -197,112 +208,57 @@ pub fn fields_fit(words: &[u32]) -> bool
     lists::all_below(&fields, 65536)
 }
 
-// A number that fits 16 bits.
-fn narrow(x: u32) -> u16
-    requires { x < 65536 }
-    ensures answer { result ≡ x }
-{
-    x as u16
-}
-
 // The format of a record.
+#[tactic(auto, using(crate::proofs::Laws::fitting, crate::proofs::Laws::format_said))]
 fn format_from(words: &[u32]) -> Format
     requires { (906 ≤ length words.now) × (fields_fit words.now ≡ true) }
     ensures answer { result ≡ format_from words.now }
 {
     Format {
-        tag: narrow(words[0]),
-        channels: narrow(words[1]),
+        tag: words[0] as u16,
+        channels: words[1] as u16,
         rate: words[2],
-        bits: narrow(words[3]),
-        align: narrow(words[4]),
-        samples: narrow(words[5]),
+        bits: words[3] as u16,
+        align: words[4] as u16,
+        samples: words[5] as u16,
     }
 }
 
-// The cue at a place.
-fn cue_from(words: &[u32], at: usize) -> Cue
-    requires { at + 3 ≤ length words.now }
-    ensures answer { result ≡ cue_from words.now at }
-{
-    Cue {
-        name: Donation(words[at]),
-        position: Frames(words[at + 1]),
-        place: Frames(words[at + 2]),
-    }
-}
-
-// The playlist entry at a place.
-fn play_from(words: &[u32], at: usize) -> Play
-    requires { at + 3 ≤ length words.now }
-    ensures answer { result ≡ play_from words.now at }
-{
-    Play {
-        name: Donation(words[at]),
-        length: Frames(words[at + 1]),
-        times: words[at + 2],
-    }
-}
-
-// The title at a place.
-fn title_from(words: &[u32], at: usize) -> Title
-    requires { at + 4 ≤ length words.now }
-    ensures answer { result ≡ title_from words.now at }
-{
-    Title {
-        kind: words[at],
-        name: Donation(words[at + 1]),
-        start: TextPlace(words[at + 2]),
-        length: TextPlace(words[at + 3]),
-    }
-}
-
-// The 64 cues of a record.
+// The 64 cues of a record. This and the two below stay three, as each begins with an empty table of its own type.
+#[tactic(auto, using(crate::proofs::Laws::taking))]
 fn cues_from(words: &[u32]) -> [Cue; 64]
     requires { 906 ≤ length words.now }
     ensures answer { result ≡ cues_from words.now 64 }
 {
-    let none = tables::no_cues();
-    let mut list = none.list;
-    let mut i = 0;
-    while i < 64 {
-        list[i] = cue_from(words, 9 + 3 * i);
-        i += 1;
-    }
+    let mut list = tables::no_cues().list;
+    take_list(words, 9, &mut list);
     list
 }
 
 // The 64 playlist entries of a record.
+#[tactic(auto, using(crate::proofs::Laws::taking))]
 fn plays_from(words: &[u32]) -> [Play; 64]
     requires { 906 ≤ length words.now }
     ensures answer { result ≡ entries_from words.now 64 }
 {
-    let none = tables::no_plays();
-    let mut list = none.list;
-    let mut i = 0;
-    while i < 64 {
-        list[i] = play_from(words, 201 + 3 * i);
-        i += 1;
-    }
+    let mut list = tables::no_plays().list;
+    take_list(words, 201, &mut list);
     list
 }
 
 // The 128 titles of a record.
+#[tactic(auto, using(crate::proofs::Laws::taking))]
 fn titles_from(words: &[u32]) -> [Title; 128]
     requires { 906 ≤ length words.now }
     ensures answer { result ≡ titles_from words.now 128 }
 {
-    let none = titles::no_titles();
-    let mut list = none.list;
-    let mut i = 0;
-    while i < 128 {
-        list[i] = title_from(words, 394 + 4 * i);
-        i += 1;
-    }
+    let mut list = titles::no_titles().list;
+    take_list(words, 394, &mut list);
     list
 }
 
 // The record that words say.
+#[tactic(auto, using(crate::proofs::Laws::record_said))]
 pub fn record_from(words: &[u32]) -> Record
     requires { (906 ≤ length words.now) × (fields_fit words.now ≡ true) }
     ensures answer { result ≡ record_from words.now }
@@ -322,8 +278,8 @@ pub fn record_from(words: &[u32]) -> Record
     Record {
         format: format_from(words),
         frames: Frames(words[6]),
-        cues: cues,
-        playlist: playlist,
-        titles: titles,
+        cues,
+        playlist,
+        titles,
     }
 }

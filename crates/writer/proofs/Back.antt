@@ -8,12 +8,10 @@ use native.Mathlib.Omega.{arith}
 use lib.Dec.{leb}
 use lib.ListN.{length}
 use borrow.Author.Tests.{leb-false}
-use Rattle.units.specs.Refusals.{file_limit}
+use Rattle.units.specs.Refusals.{file_limit, Verdict}
 use Rattle.units.specs.declared.BytePlace.{BytePlace}
 use Rattle.units.specs.declared.Refusal.{Refusal}
 use Rattle.units.specs.declared.Refusal.TheVariants.{TitlesWrong}
-use Rattle.units.specs.declared.Verdict.{Verdict}
-use Rattle.units.specs.declared.Verdict.TheVariants.{Accepted, Refused}
 use Rattle.units.specs.Checks.{check, decided, and_then}
 use Rattle.units.proofs.Checks.{then-decided}
 use Rattle.riff.specs.declared.Directory.{Directory}
@@ -37,12 +35,13 @@ use Rattle.titles.specs.Lists.{entries_in, list_valid, titles_of}
 use Rattle.titles.specs.Writing.{piece_of, list_bytes, titles_kept, list_part}
 use Rattle.titles.proofs.Round.{round-entries, round-titles, round-valid, none_in, none-titles, none-valid, none_kept, no-entries}
 use Rattle.rules.specs.declared.Record.{Record}
-use Rattle.rules.specs.Rules.{ChunkBytes, record_of, with_titles, chunk_checks, verdict_of, record_verdict}
+use Rattle.rules.specs.Rules.{ChunkBytes, record_of, with_titles, chunk_checks, verdict_of, record_verdict, reading_verdict}
 use Rattle.rules.specs.Written.{written_bytes, record_kept, RecordFits, FaultSaid}
 use Rattle.rules.proofs.Taken.{record-keeps}
 use Rattle.rules.proofs.Back.{verdict-back, record-back}
 use Rattle.reader.specs.Content.{Content, refused, holds, content_by, zeros, format_part, sound_part, fact_part, cue_part, playlist_part, titles_part, chunks_at, record_at, titles_valid, chunks_checks, checks_at, verdict_at, content_in, content_of, reading_of, reading, spot_by, titles_place, titles_spot, titles_in}
 use Rattle.writer.specs.File.{size_of, parts_of, file_of, right_titles}
+use Rattle.std.specs.Prelude.{Err, Ok}
 
 -- a table is left out exactly where its bytes are those that are read in its place
 in_place : (count : ℕ) (bytes : List ℕ) → (count ≡ 0 → bytes ≡ zeros) → cond (leb 1 count) bytes zeros ≡ bytes
@@ -113,12 +112,12 @@ module _ (m : Record) (b w : List ℕ) (h : RecordFits m) (k : FaultSaid m (size
       (λ i. not (laid.alone i) && list_valid (pad_lost d.titles) (titles-part i) (names_at i))
 
   verdict-at : verdict_at s d ≡ and_then (record_verdict m n)
-      (cond (list_valid (pad_lost d.titles) (list_part b m.titles) (names_in m.cues)) Accepted (Refused TitlesWrong))
+      (cond (list_valid (pad_lost d.titles) (list_part b m.titles) (names_in m.cues)) (Ok tt) (Err TitlesWrong))
   unfolding checks_at chunks_checks chunk_checks decided
   verdict-at =
       simp (laid.format_there, laid.sound_there)
       (then-decided (chunk_checks (chunks_at s d) (record_at s d)) (check (titles_valid s d) TitlesWrong ∷ [])
-      ∙ (λ i. and_then (others i) (cond (listed_at i) Accepted (Refused TitlesWrong))))
+      ∙ (λ i. and_then (others i) (cond (listed_at i) (Ok tt) (Err TitlesWrong))))
     where
       others : verdict_of (chunks_at s d) (record_of (chunks_at s d)) ≡ record_verdict m n
       others = ap (λ (c : ChunkBytes). verdict_of c (record_of c)) bytes-at ∙ verdict-back m n h fact-part k
@@ -129,16 +128,16 @@ module _ (m : Record) (b w : List ℕ) (h : RecordFits m) (k : FaultSaid m (size
   content-by e = ap (content_in s) laid.walked ∙ ap (λ (v : Verdict). content_by v (record_at s d) (sound_part s d)) e
 
   -- a record that breaks a rule is refused for it
-  pub ruled-back : {r : Refusal} → record_verdict m n ≡ Refused r → content_of s ≡ refused r
-  ruled-back {r} e = content-by (verdict-at ∙ ap (λ (v : Verdict). and_then v (cond (list_valid (pad_lost d.titles) (list_part b m.titles) (names_in m.cues)) Accepted (Refused TitlesWrong))) e)
+  pub ruled-back : {r : Refusal} → record_verdict m n ≡ Err r → content_of s ≡ refused r
+  ruled-back {r} e = content-by (verdict-at ∙ ap (λ (v : Verdict). and_then v (cond (list_valid (pad_lost d.titles) (list_part b m.titles) (names_in m.cues)) (Ok tt) (Err TitlesWrong))) e)
 
   -- and one whose list of titles is not valid is refused for that
-  pub titles-back : record_verdict m n ≡ Accepted → ((lost : Bool) → list_valid lost (list_part b m.titles) (names_in m.cues) ≡ false)
+  pub titles-back : record_verdict m n ≡ Ok tt → ((lost : Bool) → list_valid lost (list_part b m.titles) (names_in m.cues) ≡ false)
       → content_of s ≡ refused TitlesWrong
-  titles-back e f = content-by (verdict-at ∙ (λ i. and_then (e i) (cond (f (pad_lost d.titles) i) Accepted (Refused TitlesWrong))))
+  titles-back e f = content-by (verdict-at ∙ (λ i. and_then (e i) (cond (f (pad_lost d.titles) i) (Ok tt) (Err TitlesWrong))))
 
   -- one that keeps all rules is read back
-  module _ (e : record_verdict m n ≡ Accepted) (r : right_titles m b ≡ true) where
+  module _ (e : record_verdict m n ≡ Ok tt) (r : right_titles m b ≡ true) where
     part-valid : (lost : Bool) → list_valid lost (list_part b m.titles) (names_in m.cues) ≡ true
     part-valid lost = by (leb 1 m.titles.count)
       where
@@ -160,8 +159,8 @@ module _ (m : Record) (b w : List ℕ) (h : RecordFits m) (k : FaultSaid m (size
         by true g = round-entries (names_in m.cues) b m.titles h.titles r
         by false g = none_in ∙ sym (no-entries b m.titles (leb-false 1 m.titles.count g))
 
-    accepted-at : verdict_at s d ≡ Accepted
-    accepted-at = verdict-at ∙ (λ i. and_then (e i) (cond (part-valid (pad_lost d.titles) i) Accepted (Refused TitlesWrong)))
+    accepted-at : verdict_at s d ≡ Ok tt
+    accepted-at = verdict-at ∙ (λ i. and_then (e i) (cond (part-valid (pad_lost d.titles) i) (Ok tt) (Err TitlesWrong)))
 
     pub content-back : content_of s ≡ holds (record_kept m) w
     content-back =
@@ -172,5 +171,5 @@ module _ (m : Record) (b w : List ℕ) (h : RecordFits m) (k : FaultSaid m (size
     pub entries-back : titles_in s ≡ entries_of b m.titles
     unfolding titles_in titles_spot reading
     entries-back =
-        let v : (reading s).verdict ≡ Accepted = ap (λ (c : Content). (reading_of c).verdict) content-back in
+        let v : reading_verdict (reading s) ≡ (Ok tt) = ap (λ (c : Content). reading_verdict (reading_of c)) content-back in
         ap entries_in ((λ i. part_of s (spot_by titles_place (v i) (laid.walked i)) []) ∙ titles-part) ∙ part-entries

@@ -10,7 +10,6 @@ use Rattle.little.specs.Writing.{Put, front, holding}
 use Rattle.little.proofs.Filling.{put_front, next-room, both-put, first-room}
 use Rattle.units.specs.declared.BytePlace.{BytePlace}
 use Rattle.units.specs.declared.Refusal.{Refusal}
-use Rattle.units.specs.declared.Verdict.TheVariants.{Accepted}
 use Rattle.codes.specs.declared.Code.{Code}
 use Rattle.codes.specs.declared.Code.TheVariants as code
 use Rattle.riff.specs.Laying.{Part, Piece, piece, piece_bytes, part_bytes, body_bytes, riff_bytes, given, pieces_of, file_bytes}
@@ -22,12 +21,10 @@ use Rattle.titles.specs.Writing.{titles_right, Short}
 use Rattle.titles.proofs.Round.{right-short}
 use Rattle.rules.specs.declared.Record.{Record}
 use Rattle.rules.specs.Written.{RecordFits}
-use Rattle.writer.specs.File.{fact_chunk, cues_chunk, plays_chunk, titles_chunk, parts_of, file_of, until_tables, tables_of, settled, writing_by, writing, written_verdict}
-use Rattle.writer.specs.declared.Written.{Written}
-use Rattle.writer.specs.declared.Written.TheVariants.{Bytes}
-use Rattle.writer.specs.declared.Written.TheVariants as written
+use Rattle.writer.specs.File.{fact_chunk, cues_chunk, plays_chunk, titles_chunk, parts_of, file_of, until_tables, tables_of, settled, writing_by, writing, written_verdict, Written}
 use Rattle.writer.proofs.Opening.{form_of, count_of}
 use Rattle.writer.proofs.Settling.{Settled, settled_says, bytes-say, told-long, longer}
+use Rattle.std.specs.Prelude.{Err, Ok}
 
 body-given : (k : Code) (p : Part) (ps : List Piece) → body_bytes (given k p ps) ≡ part_bytes k p ++ body_bytes ps
 unfolding given part_bytes body_bytes
@@ -66,7 +63,7 @@ module _ (m : Record) (b w : List ℕ) where
       ∙ sym (append_assoc (form_of m.format) (count_of m.format m.frames) (tables ++ (titles ++ sound)))
 
   -- the answer told so many bytes
-  module _ {size : BytePlace} (d : List ℕ) (e : writing_by true m b w (length d) ≡ Bytes size) where
+  module _ {size : BytePlace} (d : List ℕ) (e : writing_by true m b w (length d) ≡ Ok size) where
     abbrev first : List ℕ
     first = until_tables size.0 m.format m.frames
 
@@ -76,7 +73,7 @@ module _ (m : Record) (b w : List ℕ) where
     told : size.0 ≡ length (file_of m b w)
     told = ap (λ (n : BytePlace). n.0) (told-long true m b w (length d) size e)
 
-    pub file-told : Bytes size ≡ writing_by true m b w (length d)
+    pub file-told : Ok size ≡ writing_by true m b w (length d)
     file-told = sym e
 
     pub sound-kept : length w ≤ file_limit
@@ -139,28 +136,28 @@ module _ (m : Record) (b w : List ℕ) where
 pub ruleset filing =
     (file-told, sound-kept, format-kept, size_fits_lem, size-least, opening-room, tables-room, titles-room, sound-room, file-put)
 
-pub sound-limit : (x : Bool) (m : Record) (b w : List ℕ) (room : ℕ) → settled x m b w room ≡ Accepted → length w ≤ file_limit
+pub sound-limit : (x : Bool) (m : Record) (b w : List ℕ) (room : ℕ) → settled x m b w room ≡ Ok tt → length w ≤ file_limit
 sound-limit x m b w room s = omega (arith, longer x m b w room, (settled_says x m b w room s).limit)
 
 -- ---- the answer
 module _ (right : Bool) (m : Record) (b w d : List ℕ) {x : Written} (e : x ≡ writing_by right m b w (length d)) where
   -- of a file that is written the titles are right
-  pub asked : {n : BytePlace} → x ≡ Bytes n → writing_by true m b w (length d) ≡ Bytes n
+  pub asked : {n : BytePlace} → x ≡ Ok n → writing_by true m b w (length d) ≡ Ok n
   asked {n} f =
-      let g : writing_by right m b w (length d) ≡ Bytes n = sym e ∙ f in
+      let g : writing_by right m b w (length d) ≡ Ok n = sym e ∙ f in
       let s = settled_says right m b w (length d) (bytes-say right m b w (length d) n g) in
       ap (λ (y : Bool). writing_by y m b w (length d)) (sym s.titles) ∙ g
 
-  pub asked-right : {n : BytePlace} → x ≡ Bytes n → right ≡ true
+  pub asked-right : {n : BytePlace} → x ≡ Ok n → right ≡ true
   asked-right {n} f = (settled_says right m b w (length d) (bytes-say right m b w (length d) n (sym e ∙ f))).titles
 
-  pub told-right : {n : BytePlace} {y : Written} → x ≡ Bytes n → y ≡ writing_by true m b w (length d) → y ≡ writing_by right m b w (length d)
+  pub told-right : {n : BytePlace} {y : Written} → x ≡ Ok n → y ≡ writing_by true m b w (length d) → y ≡ writing_by right m b w (length d)
   told-right f g = g ∙ ap (λ (z : Bool). writing_by z m b w (length d)) (sym (asked-right f))
 
-  pub asked-short : {n : BytePlace} {list : List Title} {k : ℕ} → (right ≡ true → Short b list k) → x ≡ Bytes n → Short b list k
+  pub asked-short : {n : BytePlace} {list : List Title} {k : ℕ} → (right ≡ true → Short b list k) → x ≡ Ok n → Short b list k
   asked-short h f = h (asked-right f)
 
-pub held-refused : (ys d : List ℕ) {x : Written} {r : Refusal} → x ≡ written.Refused r → d ≡ holding (written_verdict x) ys d
+pub held-refused : (ys d : List ℕ) {x : Written} {r : Refusal} → x ≡ Err r → d ≡ holding (written_verdict x) ys d
 held-refused ys d f = ap (λ (y : Written). holding (written_verdict y) ys d) (sym f)
 
 pub ruleset answering = (asked, told-right, asked-short, held-refused)

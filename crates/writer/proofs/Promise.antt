@@ -7,8 +7,7 @@ use Rattle.little.specs.Writing.{holding}
 use Rattle.little.proofs.Promise.{one_each}
 use Rattle.units.specs.declared.BytePlace.{BytePlace}
 use Rattle.rules.specs.declared.Record.{Record}
-use Rattle.writer.specs.declared.Written.{Written}
-use Rattle.writer.specs.File.{file_of, right_titles, writing, written_verdict, written_number}
+use Rattle.writer.specs.File.{file_of, right_titles, writing, written_verdict, written_number, Written}
 use Rattle.writer.specs.Promise.{WritePromise, OneWriting}
 use Rattle.writer.specs.Demands.{WriteNumbered}
 use Rattle.writer.proofs.Settling.{told-long}

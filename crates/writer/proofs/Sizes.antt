@@ -1,13 +1,13 @@
 -- How long a chunk, the sound and the file are, in the words of the code. Assumes nothing.
-use mathlib.Core.Path.{◌≡◌, refl, sym, ◌∙◌}
+use mathlib.Core.Path.{◌≡◌, refl, sym, ap, ◌∙◌}
 use mathlib.Core.Bool.{Bool, true, false, cond}
 use mathlib.Core.List.{List, ◌++◌}
 use Prim.Native.Nat.{ℕ, ◌+◌, ◌%◌, ◌≤◌, ◌<◌}
 use native.Mathlib.Omega.{arith}
 use lib.ListN.{length, length-append}
-use borrow.Author.Tests.{lt-leb, le-leb}
+use lib.Dec.{leb}
 use Rattle.units.specs.declared.Frames.{Frames}
-use Rattle.riff.specs.Laying.{Part, extent_if}
+use Rattle.riff.specs.Laying.{Part, extent, extent_if}
 use Rattle.riff.proofs.Laying.{length-laid}
 use Rattle.formats.specs.declared.Format.{Format}
 use Rattle.formats.specs.Frames.{needs_fact}
@@ -23,47 +23,14 @@ use Rattle.rules.specs.declared.Record.{Record}
 use Rattle.writer.specs.File.{fact_chunk, cues_chunk, plays_chunk, titles_chunk, parts_of, file_of}
 
 -- ---- a chunk that is written or left out
-module _ (p : Part) where
-  pub left_out : p.there ≡ false → 0 ≡ extent_if p
+module _ (p : Part) {x : Bool} {n k : ℕ} (there : x ≡ p.there) (long : n ≡ length p.bytes) (even : n % 2 ≡ 0) (e : k ≡ cond x (8 + n) 0) where
+  pub as_written : k ≡ extent_if p
   unfolding extent_if
-  left_out e = simp e
-
-  written : {n : ℕ} → p.there ≡ true → n ≡ length p.bytes → n % 2 ≡ 0 → 8 + n ≡ extent_if p
-  unfolding extent_if
-  written {n} e f g = simp (e, ← f) (omega arith)
-
-pub fact-size : (f : Format) {a : Bool} → a ≡ needs_fact f → a ≡ true → ◌≡◌ {A = ℕ} 12 (cond (needs_fact f) 12 0)
-fact-size f e t = simp (sym e ∙ t)
-
-pub fact-none : (f : Format) {a : Bool} → a ≡ needs_fact f → a ≡ false → ◌≡◌ {A = ℕ} 0 (cond (needs_fact f) 12 0)
-fact-none f e t = simp (sym e ∙ t)
-
-fact-extent : (f : Format) (frames : Frames) → cond (needs_fact f) 12 0 ≡ extent_if (fact_chunk f frames)
-unfolding extent_if
-fact-extent f frames = rw (fact-long frames) refl
-
-module _ (c : Cues) where
-  pub cues-none : c.count < 1 → 0 ≡ extent_if (cues_chunk c)
-  cues-none h = left_out (cues_chunk c) (lt-leb 1 c.count h)
-
-  pub cues-size : {n : ℕ} → 1 ≤ c.count → n ≡ length (cues_bytes c) → n % 2 ≡ 0 → 8 + n ≡ extent_if (cues_chunk c)
-  cues-size h = written (cues_chunk c) (le-leb 1 c.count h)
-
-module _ (p : Playlist) where
-  pub plays-none : p.count < 1 → 0 ≡ extent_if (plays_chunk p)
-  plays-none h = left_out (plays_chunk p) (lt-leb 1 p.count h)
-
-  pub plays-size : {n : ℕ} → 1 ≤ p.count → n ≡ length (plays_bytes p) → n % 2 ≡ 0 → 8 + n ≡ extent_if (plays_chunk p)
-  plays-size h = written (plays_chunk p) (le-leb 1 p.count h)
-
-module _ (b : List ℕ) (t : Titles) where
-  pub titles-none : t.count < 1 → 0 ≡ extent_if (titles_chunk b t)
-  titles-none h = left_out (titles_chunk b t) (lt-leb 1 t.count h)
-
-  pub titles-size : {n : ℕ} → 1 ≤ t.count → n ≡ length (list_bytes (entries_of b t)) → n % 2 ≡ 0 → 8 + n ≡ extent_if (titles_chunk b t)
-  titles-size h = written (titles_chunk b t) (le-leb 1 t.count h)
-
-pub ruleset sizes = (titles-none, titles-size, fact-size, fact-none, cues-none, cues-size, plays-none, plays-size)
+  as_written = e ∙ ap (λ (b : Bool). cond b (8 + n) 0) there ∙ by p.there
+    where
+      by : (b : Bool) → cond b (8 + n) 0 ≡ cond b (extent (length p.bytes)) 0
+      by true = omega (arith, long)
+      by false = refl
 
 -- ---- the sound in two parts
 pub sound-size : (x y : List ℕ) → length x + length y ≡ length (x ++ y)
@@ -71,15 +38,24 @@ sound-size x y = sym (length-append x y)
 
 -- ---- the file
 module _ (m : Record) (b w : List ℕ) {fmt fact cue plst adtl : ℕ}
-    (a : fmt ≡ length (format_bytes m.format)) (e : fmt % 2 ≡ 0) (c : fact ≡ cond (needs_fact m.format) 12 0)
-    (d : cue ≡ extent_if (cues_chunk m.cues)) (f : plst ≡ extent_if (plays_chunk m.playlist)) (g : adtl ≡ extent_if (titles_chunk b m.titles)) where
-  pub file-size : 12 + 8 + fmt + fact + cue + plst + adtl + 8 + length w + length w % 2 ≡ length (file_of m b w)
+    (a : fmt ≡ length (format_bytes m.format)) (e : fmt % 2 ≡ 0)
+    {x : Bool} (c : x ≡ needs_fact m.format) (d : fact ≡ cond x (8 + 4) 0)
+    {cues : ℕ} (f : cues ≡ length (cues_bytes m.cues)) (g : cues % 2 ≡ 0) (h : cue ≡ cond (leb 1 m.cues.count) (8 + cues) 0)
+    {plays : ℕ} (i : plays ≡ length (plays_bytes m.playlist)) (j : plays % 2 ≡ 0) (k : plst ≡ cond (leb 1 m.playlist.count) (8 + plays) 0)
+    {titles : ℕ} (l : titles ≡ length (list_bytes (entries_of b m.titles))) (n : titles % 2 ≡ 0)
+    (o : adtl ≡ cond (leb 1 m.titles.count) (8 + titles) 0) where
+  file-size : 12 + 8 + fmt + fact + cue + plst + adtl + 8 + length w + length w % 2 ≡ length (file_of m b w)
   unfolding file_of parts_of
   file-size =
-      let l = length-laid (parts_of m b w) in
-      let h = fact-extent m.format m.frames in
+      let laid = length-laid (parts_of m b w) in
+      let counted = as_written (fact_chunk m.format m.frames) c (sym (fact-long m.frames)) refl d in
+      let cue_part = as_written (cues_chunk m.cues) refl f g h in
+      let play_part = as_written (plays_chunk m.playlist) refl i j k in
+      let title_part = as_written (titles_chunk b m.titles) refl l n o in
       omega arith
 
-  -- the same where n is the length of the sound
-  pub file-counted : {n : ℕ} → n ≡ length w → 12 + 8 + fmt + fact + cue + plst + adtl + 8 + n + n % 2 ≡ length (file_of m b w)
-  file-counted i = rw i file-size
+  -- the same where the sound comes in two parts
+  pub file-counted : {size : ℕ} → size ≡ length w → 12 + 8 + fmt + fact + cue + plst + adtl + 8 + size + size % 2 ≡ length (file_of m b w)
+  file-counted q = rw q file-size
+
+pub ruleset sizes = (file-counted)

@@ -1,11 +1,10 @@
 -- The file of a record, the texts of its titles and its sound, the verdict on writing it, and the answer. Assumes nothing.
-use Rattle.std.specs.Prelude.{ℕ, ◌-◌, Bool, List, [], ◌∷◌, ◌++◌, leb, length}
+use Rattle.std.specs.Prelude.{ℕ, ◌-◌, Bool, List, [], ◌∷◌, ◌++◌, leb, length, Result, Ok, Err}
 use Rattle.units.specs.declared.BytePlace.{BytePlace}
 use Rattle.units.specs.declared.Frames.{Frames}
+use Rattle.units.specs.declared.Refusal.{Refusal}
 use Rattle.units.specs.declared.Refusal.TheVariants.{LengthOutOfRange, OutputTooSmall, TitlesWrong}
-use Rattle.units.specs.declared.Verdict.{Verdict}
-use Rattle.units.specs.declared.Verdict.TheVariants as verdict
-use Rattle.units.specs.Refusals.{file_limit, verdict_number}
+use Rattle.units.specs.Refusals.{file_limit, verdict_number, Verdict}
 use Rattle.units.specs.Checks.{Check, check, decided}
 use Rattle.codes.specs.declared.Code.TheVariants as code
 use Rattle.riff.specs.Laying.{Part, Parts, piece, piece_bytes, part_bytes, riff_bytes, pieces_of, file_bytes}
@@ -21,8 +20,6 @@ use Rattle.titles.specs.Titles.{entries_of}
 use Rattle.titles.specs.Writing.{list_bytes, titles_right}
 use Rattle.rules.specs.declared.Record.{Record}
 use Rattle.rules.specs.Rules.{record_checks}
-use Rattle.writer.specs.declared.Written.{Written}
-use Rattle.writer.specs.declared.Written.TheVariants.{Bytes, Refused}
 
 -- ---- the file
 
@@ -88,9 +85,13 @@ settled right m b w room = decided (write_checks right m b w room)
 
 -- ---- the answer, with room for so many bytes
 
+-- what writing answers: how many bytes the file has, or the refusal
+abbrev pub Written : Type 0
+Written = Result BytePlace Refusal
+
 abbrev pub written_by : Verdict → BytePlace → Written
-written_by verdict.Accepted n = Bytes n
-written_by (verdict.Refused r) n = Refused r
+written_by (Ok _) n = Ok n
+written_by (Err r) n = Err r
 
 unfoldable pub writing_by : Bool → Record → List ℕ → List ℕ → ℕ → Written
 writing_by right m b w room = written_by (settled right m b w room) (size_of (file_of m b w))
@@ -100,8 +101,8 @@ writing m b w room = writing_by (right_titles m b) m b w room
 
 -- the verdict that an answer tells, and its number: 0 where the file is written
 abbrev pub written_verdict : Written → Verdict
-written_verdict (Bytes n) = verdict.Accepted
-written_verdict (Refused r) = verdict.Refused r
+written_verdict (Ok n) = Ok tt
+written_verdict (Err r) = Err r
 
 abbrev pub written_number : Written → ℕ
 written_number r = verdict_number (written_verdict r)

@@ -1,6 +1,6 @@
 -- What writing promises: one answer, with its number and its value in document 01's terms, and one content of the lent buffer.
 -- Assumes nothing.
-use Rattle.std.specs.Prelude.{ℕ, ◌≡◌, not, cond, List, leb, length}
+use Rattle.std.specs.Prelude.{ℕ, ◌≡◌, not, cond, List, leb, length, Ok}
 use Rattle.little.specs.Writing.{holding}
 use Rattle.units.specs.Refusals.{file_limit}
 use Rattle.units.specs.declared.BytePlace.{BytePlace}
@@ -9,9 +9,7 @@ use Rattle.formats.specs.Frames.{whole_blocks, frames_rule}
 use Rattle.tables.specs.Cues.{cues_rule}
 use Rattle.tables.specs.Plays.{plays_rule}
 use Rattle.rules.specs.declared.Record.{Record}
-use Rattle.writer.specs.declared.Written.{Written}
-use Rattle.writer.specs.declared.Written.TheVariants.{Bytes}
-use Rattle.writer.specs.File.{size_of, file_of, right_titles, writing, written_verdict, written_number}
+use Rattle.writer.specs.File.{size_of, file_of, right_titles, writing, written_verdict, written_number, Written}
 
 -- the number, in the order of checks and the numbers of document 01; 0 where the file is written
 abbrev pub write_number : Record → List ℕ → List ℕ → ℕ → ℕ
@@ -30,7 +28,7 @@ write_number m b w room =
 pub record WritePromise (m : Record) (b w d : List ℕ) (r : Written) (e : List ℕ) : Type 0 where
   pub answer : r ≡ writing m b w (length d)
   pub number : written_number r ≡ write_number m b w (length d)
-  pub size : (n : BytePlace) → r ≡ Bytes n → n.0 ≡ length (file_of m b w)
+  pub size : (n : BytePlace) → r ≡ Ok n → n.0 ≡ length (file_of m b w)
   pub buffer : e ≡ holding (written_verdict r) (file_of m b w) d
 
 -- two answers with their buffers that keep it are the same

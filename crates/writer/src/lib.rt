@@ -5,17 +5,16 @@
 // which may come in two parts, is copied once and not looked at.
 #![tactic(auto)]
 
-ghost use Rattle.std.specs.Prelude.{◌≡◌, true, cond, ◌++◌, ◌+◌, ◌≤◌, length};
+ghost use Rattle.std.specs.Prelude.{◌≡◌, true, cond, ◌++◌, ◌+◌, ◌≤◌, length, Ok};
 ghost use Rattle.units.specs.Refusals.{file_limit};
 ghost use Rattle.codes.specs.declared.Code.TheVariants as code;
-ghost use Rattle.little.specs.Writing.{Put, holding};
+ghost use Rattle.little.specs.Writing.{Put, front, holding};
 ghost use Rattle.formats.specs.Format.{format_rule};
 ghost use Rattle.formats.specs.Frames.{needs_fact};
 ghost use Rattle.formats.specs.Bytes.{format_bytes};
 ghost use Rattle.titles.specs.Writing.{Short};
 ghost use Rattle.rules.specs.Written.{RecordFits};
 ghost use Rattle.riff.specs.Laying.{piece, piece_bytes, part_bytes, extent_if};
-ghost use Rattle.writer.specs.declared.Written.TheVariants.{Bytes};
 ghost use Rattle.writer.specs.File.{fact_chunk, cues_chunk, plays_chunk, titles_chunk, file_of, until_tables, tables_of};
 ghost use Rattle.writer.specs.File.{writing_by, writing, written_verdict};
 
@@ -24,60 +23,20 @@ use formats::Format;
 use rules::Record;
 use tables::{Cues, Playlist};
 use titles::Titles;
-use units::{BytePlace, Frames, Refusal, Verdict};
-
-// What writing answers: the number of bytes of the file, or why there is none.
-#[derive(Clone, Copy)]
-pub enum Written {
-    Bytes(BytePlace),
-    Refused(Refusal),
-}
+use units::{BytePlace, Frames, Refusal};
 
 // ---- how long the file is
 
-// The bytes of the `fact`, with its head; none where it is left out.
-fn fact_extent(format: Format) -> usize
-    ensures answer { result ≡ cond (needs_fact format) 12 0 }
-    ensures bound { result ≤ 12 }
-{
-    if formats::needs_fact(format) {
-        return 12;
-    }
-    0
-}
-
-// The bytes of the `cue `.
-fn cues_extent(cues: Cues) -> usize
-    ensures answer { result ≡ extent_if (cues_chunk cues) }
-    ensures bound { result ≤ 1548 }
-{
-    if cues.count < 1 {
-        return 0;
-    }
-    8 + tables::cues_size(cues)
-}
-
-// The bytes of the `plst`.
-fn plays_extent(playlist: Playlist) -> usize
-    ensures answer { result ≡ extent_if (plays_chunk playlist) }
-    ensures bound { result ≤ 780 }
-{
-    if playlist.count < 1 {
-        return 0;
-    }
-    8 + tables::plays_size(playlist)
-}
-
-// The bytes of the list of titles, whose texts stand in some bytes.
-fn titles_extent(texts: &[u8], titles: Titles) -> usize
-    requires { Short texts.now titles.list titles.count }
-    ensures answer { result ≡ extent_if (titles_chunk texts.now titles) }
+// The bytes of a chunk with its head; none where it is left out.
+fn extent(there: bool, size: usize) -> usize
+    requires { size ≤ 34308 }
+    ensures answer { result ≡ cond there (8 + size) 0 }
     ensures bound { result ≤ 34316 }
 {
-    if titles.count < 1 {
-        return 0;
+    if there {
+        return 8 + size;
     }
-    8 + titles::list_size(texts, titles)
+    0
 }
 
 // The bytes of a sound in two parts. Two slices are together shorter than a usize counts.
@@ -93,21 +52,21 @@ fn file_size(made: Record, texts: &[u8], first: &[u8], second: &[u8]) -> usize
     requires short { Short texts.now made.titles.list made.titles.count }
     ensures answer { result ≡ length (file_of made texts.now (first.now ++ second.now)) }
 {
-    let format = made.format;
-    let cues = made.cues;
-    let playlist = made.playlist;
-    let titles = made.titles;
-    let fmt = formats::format_size(format);
-    let fact = fact_extent(format);
-    let cue = cues_extent(cues);
-    let plst = plays_extent(playlist);
-    let adtl = titles_extent(texts, titles);
+    let fmt = formats::format_size(made.format);
+    let fact = extent(formats::needs_fact(made.format), 4);
+    let cue = extent(1 <= made.cues.count, tables::cues_size(made.cues));
+    let plst = extent(1 <= made.playlist.count, tables::plays_size(made.playlist));
+    let adtl = extent(
+        1 <= made.titles.count,
+        titles::list_size(texts, made.titles),
+    );
     let n = sound_size(first, second);
     12 + 8 + fmt + fact + cue + plst + adtl + 8 + n + n % 2
 }
 
 // The answer to writing a record, whose titles are right or not, before a byte is put: 9 to 13, then 21,
 // then 1, then 14.
+#[tactic(auto, using(crate::proofs::Settling::settling))]
 fn settle(
     made: Record,
     right: bool,
@@ -115,33 +74,31 @@ fn settle(
     first: &[u8],
     second: &[u8],
     room: usize,
-) -> Written
+) -> Result<BytePlace, Refusal>
     requires { right ≡ true → Short texts.now made.titles.list made.titles.count }
     ensures answer { result ≡ writing_by right made texts.now (first.now ++ second.now) room }
 {
     let sound = sound_size(first, second);
-    let ruled = rules::record_verdict(made, BytePlace(sound));
-    if let Verdict::Refused(refusal) = ruled {
-        return Written::Refused(refusal);
-    }
+    rules::record_verdict(made, BytePlace(sound))?;
     if !right {
-        return Written::Refused(Refusal::TitlesWrong);
+        return Err(Refusal::TitlesWrong);
     }
     // So that the sum in `file_size` fits.
     if units::LIMIT < sound {
-        return Written::Refused(Refusal::LengthOutOfRange);
+        return Err(Refusal::LengthOutOfRange);
     }
     let size = file_size(made, texts, first, second);
     if units::LIMIT < size {
-        return Written::Refused(Refusal::LengthOutOfRange);
+        return Err(Refusal::LengthOutOfRange);
     }
     if room < size {
-        return Written::Refused(Refusal::OutputTooSmall);
+        return Err(Refusal::OutputTooSmall);
     }
-    Written::Bytes(BytePlace(size))
+    Ok(BytePlace(size))
 }
 
-// ---- the chunks; each function puts one at a place, where it is written, and gives the place behind it
+// ---- the chunks; each function puts one at a place, where it is written, and gives the place behind it. One function
+// to which closures said each chunk's size and bytes would be no plainer.
 
 fn put_format(out: &mut [u8], at: usize, format: Format) -> usize
     requires format_value { format_rule format ≡ true }
@@ -213,6 +170,7 @@ fn put_titles(out: &mut [u8], at: usize, texts: &[u8], titles: Titles) -> usize
 }
 
 // Puts the two parts of a sound, one behind the other.
+#[tactic(auto, using(little::proofs::Filling::behind))]
 fn put_joined(out: &mut [u8], at: usize, first: &[u8], second: &[u8])
     requires { at + length (first.now ++ second.now) ≤ length out.old }
     ensures buffer { Put out.old at (first.now ++ second.now) out.new }
@@ -258,7 +216,8 @@ fn put_tables(out: &mut [u8], at: usize, cues: Cues, playlist: Playlist) -> usiz
     put_plays(out, next, playlist)
 }
 
-// Puts the whole file, of which it is settled that it has so many bytes, and tells them.
+// Puts the whole file, of which it is settled that it has so many bytes.
+#[tactic(auto, using(crate::proofs::Files::filing))]
 fn put_file(
     made: Record,
     texts: &[u8],
@@ -266,42 +225,32 @@ fn put_file(
     second: &[u8],
     size: BytePlace,
     out: &mut [u8],
-) -> Written
+)
     requires short { Short texts.now made.titles.list made.titles.count }
-    requires out_value { writing_by true made texts.now (first.now ++ second.now) (length out.old) ≡ Bytes size }
-    ensures answer { result
-        ≡ writing_by true made texts.now (first.now ++ second.now) (length out.old) }
-    ensures buffer { out.new ≡ holding (written_verdict result)
-        (file_of made texts.now (first.now ++ second.now)) out.old }
+    requires out_value { writing_by true made texts.now (first.now ++ second.now) (length out.old) ≡ Ok size }
+    ensures buffer { out.new ≡ front (file_of made texts.now (first.now ++ second.now)) out.old }
 {
-    let format = made.format;
-    let frames = made.frames;
-    let cues = made.cues;
-    let playlist = made.playlist;
-    let titles = made.titles;
-    let tables = put_opening(out, size.0 as u32, format, frames);
-    let list_at = put_tables(out, tables, cues, playlist);
-    let data_at = put_titles(out, list_at, texts, titles);
+    let tables = put_opening(out, size.0 as u32, made.format, made.frames);
+    let list_at = put_tables(out, tables, made.cues, made.playlist);
+    let data_at = put_titles(out, list_at, texts, made.titles);
     put_sound(out, data_at, first, second);
-    Written::Bytes(size)
 }
 
 // Writes a record, the texts of its titles and its sound as a file, from the start of a lent buffer. That
 // the record fits its fields, by its types, is what `Back` and `SameNumber` of specs/Demands.antt ask of it.
-pub fn write(made: Record, texts: &[u8], sound: &[u8], out: &mut [u8]) -> Written
+pub fn write(made: Record, texts: &[u8], sound: &[u8], out: &mut [u8]) -> Result<BytePlace, Refusal>
     ensures answer { result ≡ writing made texts.now sound.now (length out.old) }
     ensures buffer { out.new
         ≡ holding (written_verdict result) (file_of made texts.now sound.now) out.old }
     ensures fits { RecordFits made }
 {
-    let titles = made.titles;
-    let cues = made.cues;
-    let right = titles::titles_right(texts, titles, cues);
+    let right = titles::titles_right(texts, made.titles, made.cues);
     write_joined(made, right, texts, sound, b"", out)
 }
 
 // The same of a record whose titles are known to be right or not, wherever their texts stand, and with a
 // sound in two parts, one behind the other, as adding to a side has it.
+#[tactic(auto, using(crate::proofs::Files::answering))]
 pub fn write_joined(
     made: Record,
     right: bool,
@@ -309,7 +258,7 @@ pub fn write_joined(
     first: &[u8],
     second: &[u8],
     out: &mut [u8],
-) -> Written
+) -> Result<BytePlace, Refusal>
     requires { right ≡ true → Short texts.now made.titles.list made.titles.count }
     ensures answer { result
         ≡ writing_by right made texts.now (first.now ++ second.now) (length out.old) }
@@ -317,9 +266,7 @@ pub fn write_joined(
         (file_of made texts.now (first.now ++ second.now)) out.old }
     ensures fits { RecordFits made }
 {
-    let answer = settle(made, right, texts, first, second, out.len());
-    let Written::Bytes(size) = answer else {
-        return answer;
-    };
-    put_file(made, texts, first, second, size, out)
+    let size = settle(made, right, texts, first, second, out.len())?;
+    put_file(made, texts, first, second, size, out);
+    Ok(size)
 }

@@ -1,0 +1,7 @@
+-- Three numbers, one behind the other.
+use Rattle.std.proofs.Common.{rules}
+use Rattle.tables.proofs.Putting.{putting}
+use Rattle.tables.proofs.PlayEntry.put_at.Goals as goal
+
+pub returns : goal.returns
+returns c = search (rules, putting)
