@@ -1,6 +1,6 @@
 -- The file of a copy: its record is read back as it was written, since its tables are empty, and the file is never above the
 -- limit, since a block has no more bytes than samples. Assumes nothing.
-use mathlib.Core.Path.{◌≡◌, refl}
+use mathlib.Core.Path.{◌≡◌, refl, sym}
 use mathlib.Core.Bool.{true}
 use mathlib.Core.List.{List, []}
 use Prim.Native.Nat.{ℕ, ◌+◌, ◌-◌, ◌*◌, ◌/◌, ◌%◌, ◌≤◌}
@@ -15,7 +15,7 @@ use Rattle.units.specs.declared.BytePlace.{BytePlace}
 use Rattle.units.specs.declared.Frames.{Frames}
 use Rattle.formats.specs.Frames.{needs_fact}
 use Rattle.formats.proofs.Bounds.{taken-fits, frames-bound}
-use Rattle.formats.proofs.Lengths.{format-ima-long}
+use Rattle.formats.proofs.Lengths.{format-ima-long, fact-long}
 use Rattle.tables.specs.Tables.{held}
 use Rattle.tables.specs.Cues.{no_cue}
 use Rattle.tables.specs.Plays.{no_play}
@@ -26,8 +26,8 @@ use Rattle.titles.specs.Writing.{titles_right, texts_in_row, titles_kept, Titles
 use Rattle.rules.specs.Rules.{Writable}
 use Rattle.rules.specs.Written.{record_kept, RecordFits}
 use Rattle.rules.proofs.Again.{none-fit}
-use Rattle.writer.specs.File.{file_of, right_titles}
-use Rattle.writer.proofs.Sizes.{file-size, fact-size, cues-none, plays-none, titles-none}
+use Rattle.writer.specs.File.{fact_chunk, cues_chunk, plays_chunk, titles_chunk, file_of, right_titles}
+use Rattle.writer.proofs.Sizes.{left_out, as_written, file-size}
 use Rattle.formats.specs.Format.{ima_samples, ima_format}
 use Rattle.encode.specs.Encoding.{blocks_for, encoded_bytes}
 use Rattle.formats.proofs.Making.{Codable}
@@ -98,8 +98,8 @@ module _ (s : List ℤ) (c rate a : ℕ) (w : Codable c a) where
       let m = record_for s c rate a in
       let n : ◌≡◌ {A = ℕ} 17 1 → ⊥ = λ e. omega arith in
       let l = file-size m [] bytes (format-ima-long m.format n refl) refl
-      (fact-size m.format {a = true} refl refl) (cues-none m.cues (omega arith))
-      (plays-none m.playlist (omega arith)) (titles-none [] m.titles (omega arith)) in
+      (as_written (fact_chunk m.format m.frames) {x = true} refl (sym (fact-long m.frames)) refl refl) (left_out (cues_chunk m.cues) refl)
+      (left_out (plays_chunk m.playlist) refl) (left_out (titles_chunk [] m.titles) refl) in
       omega arith
 
   -- a block has no more bytes than samples

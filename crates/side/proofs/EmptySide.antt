@@ -17,7 +17,6 @@ use Rattle.units.specs.declared.BytePlace.{BytePlace}
 use Rattle.formats.specs.Format.{shared, pcm_rule, format_rule, plain_format}
 use Rattle.formats.specs.Frames.{needs_fact}
 use Rattle.formats.proofs.Whole.{long-whole, long-count}
-use Rattle.formats.proofs.Taken.{fact-unneeded}
 use Rattle.formats.proofs.Lengths.{format-pcm-long}
 use Rattle.formats.proofs.Bounds.{taken-fits}
 use Rattle.tables.specs.Tables.{count_in, held}
@@ -32,9 +31,9 @@ use Rattle.rules.proofs.Again.{none-fit}
 use Rattle.rules.specs.Rules.{Writable}
 use Rattle.rules.specs.Written.{record_kept, RecordFits}
 use Rattle.reader.specs.Content.{holds, zeros, content_of}
-use Rattle.writer.specs.File.{size_of, file_of, right_titles, writing, written_number}
+use Rattle.writer.specs.File.{fact_chunk, cues_chunk, plays_chunk, titles_chunk, size_of, file_of, right_titles, writing, written_number}
 use Rattle.writer.specs.Demands as below
-use Rattle.writer.proofs.Sizes.{cues-none, plays-none, titles-none, file-size}
+use Rattle.writer.proofs.Sizes.{left_out, file-size}
 use Rattle.writer.proofs.Settling.{settled_says}
 use Rattle.writer.proofs.Demands.{bytes-say, content-written}
 use Rattle.writer.proofs.Demands as below-proofs
@@ -104,10 +103,10 @@ module _ (channels rate : ℕ) where
   empty_right = refl
 
   empty-long : length (file_of m [] []) ≡ 44
-  unfolding empty_side plain_format
+  unfolding empty_side plain_format needs_fact
   empty-long =
-      let f : ◌≡◌ {A = ℕ} 0 (cond (needs_fact m.format) 12 0) = simp (fact-unneeded m.format refl) in
-      sym (file-size m [] [] (format-pcm-long m.format refl) refl f (cues-none m.cues (omega arith)) (plays-none m.playlist (omega arith)) (titles-none [] m.titles (omega arith)))
+      sym (file-size m [] [] (format-pcm-long m.format refl) refl (left_out (fact_chunk m.format m.frames) refl) (left_out (cues_chunk m.cues) refl)
+           (left_out (plays_chunk m.playlist) refl) (left_out (titles_chunk [] m.titles) refl))
 
 pub empty-numbered : EmptyNumbered
 unfolding EmptyNumbered below.WriteNumbered
