@@ -31,7 +31,7 @@ use Rattle.titles.specs.Writing.{list_bytes, Short}
 use Rattle.titles.proofs.Round.{titles-many, rule-of, stands-short}
 use Rattle.titles.proofs.Lists.{valid-few}
 use Rattle.rules.specs.declared.Record.{Record}
-use Rattle.rules.specs.Rules.{with_titles, record_checks, blank, bare, reading_by, record_in, reading_verdict, Reading}
+use Rattle.rules.specs.Rules.{with_titles, record_checks, blank, bare, record_in, reading_verdict, Reading}
 use Rattle.reader.specs.Content.{reading, sound_in, titles_spot, titles_in, texts_in}
 use Rattle.reader.specs.Demands.{Refusing, TitlesTold}
 use Rattle.reader.proofs.Titles.{list-short, list-formed, titles-made, titles-told}

@@ -106,7 +106,7 @@ module _ (channels rate : ℕ) where
   unfolding empty_side plain_format needs_fact
   empty-long =
       sym (file-size m [] [] (format-pcm-long m.format refl) refl (left_out (fact_chunk m.format m.frames) refl) (left_out (cues_chunk m.cues) refl)
-           (left_out (plays_chunk m.playlist) refl) (left_out (titles_chunk [] m.titles) refl))
+      (left_out (plays_chunk m.playlist) refl) (left_out (titles_chunk [] m.titles) refl))
 
 pub empty-numbered : EmptyNumbered
 unfolding EmptyNumbered below.WriteNumbered

@@ -1,33 +1,25 @@
 -- Whether a record is a side, and whether a song suits it and has place, in the words of the code. Assumes nothing.
 use mathlib.Core.Path.{◌≡◌, refl, sym, ap, ◌∙◌}
 use mathlib.Core.Bool.{Bool, true, false, not, ◌&&◌}
-use mathlib.Core.List.{List, [], ◌∷◌}
+use mathlib.Core.List.{List}
 use Prim.Native.Nat.{ℕ, ◌+◌, ◌*◌, ◌≤◌, ◌<◌}
 use native.Mathlib.Omega.{arith}
-use lib.Dec.{eqb, leb}
+use lib.Dec.{eqb}
 use lib.ListN.{length, take, drop, get_or}
-use lib.Seq.{length-take-le, drop-length, get_or-take}
 use mir.Syntax.{w32, w64}
 use mir.Val.{Fits}
-use borrow.Author.Tests.{eq-eqb, ne_eqb, not-true, not-false, lt-ltb, le-ltb}
+use borrow.Author.Tests.{not-true, not-false}
 use Rattle.little.proofs.Filling.{drop-next}
 use Rattle.std.proofs.lemmas.List.{drop_all}
-use Rattle.units.specs.declared.Frames.{Frames}
-use Rattle.formats.specs.declared.Format.{Format}
 use Rattle.tables.specs.declared.Cue.{Cue}
 use Rattle.tables.specs.declared.Cues.{Cues}
 use Rattle.tables.specs.declared.Play.{Play}
 use Rattle.tables.specs.declared.Playlist.{Playlist}
 use Rattle.tables.specs.Cues.{no_cue}
 use Rattle.tables.specs.Plays.{no_play}
-use Rattle.units.specs.declared.Refusal.{Refusal}
 use Rattle.tables.proofs.Putting.{array_long}
-use Rattle.rules.specs.declared.Record.{Record}
-use Rattle.side.specs.Side.{sixteen_bit, cue_list, play_list, tiled, is_side, side_read}
-use Rattle.side.specs.Adding.{suits, has_place}
+use Rattle.side.specs.Side.{tiled}
 use Rattle.side.proofs.Songs.{counts-agree}
-use Rattle.std.specs.Prelude.{Err, Ok}
-use Rattle.rules.specs.Rules.{record_in, reading_verdict, Reading}
 
 -- ---- cues and entries that tile so many frames: those up to i end at a frame
 abbrev next : Cue → Play → ℕ → Bool

@@ -5,21 +5,19 @@ use mathlib.Core.List.{List, [], ◌∷◌, map}
 use Prim.Native.Nat.{ℕ, suc, ◌+◌, ◌*◌, ◌≤◌, ◌<◌, min}
 use native.Mathlib.Nat.{mul-le-mul}
 use native.Mathlib.Omega.{arith}
-use lib.Dec.{eqb, ltb, leb}
+use lib.Dec.{eqb, ltb}
 use lib.ListN.{length, take, drop, get_or, length-map, length-take}
 use lib.Seq.{get_or-take}
 use mir.Syntax.{w16, w32, w64}
 use mir.Val.{Fits}
-use borrow.Author.Tests.{ltb-false, lt-ltb, le-ltb, lt-leb, le-leb, not-true, not-false}
+use borrow.Author.Tests.{ltb-false, lt-ltb, le-ltb, not-true, not-false}
 use Rattle.little.specs.Same.{same_bytes}
 use Rattle.lists.specs.Among.{index_in, has}
 use Rattle.units.specs.declared.BytePlace.{BytePlace}
 use Rattle.units.specs.declared.Donation.{Donation}
 use Rattle.units.specs.declared.Frames.{Frames}
-use Rattle.units.specs.declared.Refusal.{Refusal}
 use Rattle.units.specs.declared.Refusal.TheVariants.{SongEmptyOrDifferent, NoPlaceOnSide, AlreadyListed}
-use Rattle.units.specs.Checks.{Check, check, decided, and_then}
-use Rattle.units.proofs.Checks.{check-fails, check-met}
+use Rattle.units.specs.Checks.{decided}
 use Rattle.formats.specs.declared.Format.{Format}
 use Rattle.tables.specs.declared.Cue.{Cue}
 use Rattle.tables.specs.declared.Cues.{Cues}
@@ -33,12 +31,11 @@ use Rattle.tables.proofs.Behind.{names-first}
 use Rattle.rules.specs.declared.Record.{Record}
 use Rattle.rules.specs.Written.{RecordFits}
 use Rattle.rules.proofs.Typed.{record-typed}
-use Rattle.side.specs.Side.{cue_list, play_list, is_side, side_read, bytes_of_frames, frames_at, sound_at, songs_of, songs_held, is_listed, listed_sound}
-use Rattle.side.specs.Adding.{once_more, has_place, place_checks, add_checks, add_verdict, with_song}
-use Rattle.side.proofs.Songs.{songs-named, side-tiled, lists-long, cues-many, counts-agree, side-says}
+use Rattle.side.specs.Side.{cue_list, play_list, is_side, bytes_of_frames, frames_at, sound_at, songs_of, songs_held, is_listed, listed_sound}
+use Rattle.side.specs.Adding.{once_more, has_place, place_checks, with_song}
+use Rattle.side.proofs.Songs.{songs-named, side-tiled, lists-long, cues-many, counts-agree}
 use Rattle.units.specs.Refusals.{Verdict}
 use Rattle.std.specs.Prelude.{Err, Ok}
-use Rattle.rules.specs.Rules.{record_in, reading_verdict, Reading}
 
 -- ---- the sound of a song
 pub product-fits : {a b : ℕ} → Fits w16 a → Fits w32 b → Fits w64 (a * b)

@@ -2,21 +2,16 @@
 use mathlib.Core.Path.{◌≡◌, refl, sym, ap, ◌∙◌}
 use mathlib.Core.Bool.{Bool, true, false, cond}
 use mathlib.Core.List.{List, ◌++◌}
-use Prim.Native.Nat.{ℕ, ◌+◌, ◌%◌, ◌≤◌, ◌<◌}
+use Prim.Native.Nat.{ℕ, ◌+◌, ◌%◌}
 use native.Mathlib.Omega.{arith}
 use lib.ListN.{length, length-append}
 use lib.Dec.{leb}
-use Rattle.units.specs.declared.Frames.{Frames}
 use Rattle.riff.specs.Laying.{Part, extent, extent_if}
 use Rattle.riff.proofs.Laying.{length-laid}
-use Rattle.formats.specs.declared.Format.{Format}
 use Rattle.formats.specs.Frames.{needs_fact}
 use Rattle.formats.specs.Bytes.{format_bytes}
 use Rattle.formats.proofs.Lengths.{fact-long}
-use Rattle.tables.specs.declared.Cues.{Cues}
-use Rattle.tables.specs.declared.Playlist.{Playlist}
 use Rattle.tables.specs.Bytes.{cues_bytes, plays_bytes}
-use Rattle.titles.specs.declared.Titles.{Titles}
 use Rattle.titles.specs.Titles.{entries_of}
 use Rattle.titles.specs.Writing.{list_bytes}
 use Rattle.rules.specs.declared.Record.{Record}
@@ -60,7 +55,7 @@ module _ (m : Record) (b w : List ℕ) {fmt : ℕ} (a : fmt ≡ length (format_b
         → 12 + 8 + fmt + fact + cue + plst + adtl + 8 + size + size % 2 ≡ length (file_of m b w)
     file-counted q =
         rw q (file-size (as_written (fact_chunk m.format m.frames) c (sym (fact-long m.frames)) refl d)
-              (as_written (cues_chunk m.cues) refl f g h) (as_written (plays_chunk m.playlist) refl i j k)
-              (as_written (titles_chunk b m.titles) refl l n o))
+        (as_written (cues_chunk m.cues) refl f g h) (as_written (plays_chunk m.playlist) refl i j k)
+        (as_written (titles_chunk b m.titles) refl l n o))
 
 pub ruleset sizes = (file-counted)
