@@ -1,12 +1,13 @@
 -- Laws for one channel or two: the check of their headers, and what a function for either asks and gives. Assumes nothing.
-use mathlib.Core.Path.{◌≡◌}
-use mathlib.Core.Bool.{Bool, true, false}
+use mathlib.Core.Path.{◌≡◌, sym, ap, ◌∙◌}
+use mathlib.Core.Bool.{Bool, true, false, ◌&&◌}
 use mathlib.Core.List.{List}
-use Prim.Native.Nat.{ℕ, ◌+◌, ◌*◌, ◌≤◌, ◌<◌}
+use Prim.Native.Nat.{ℕ, suc, ◌+◌, ◌-◌, ◌*◌, ◌≤◌, ◌<◌}
 use native.Mathlib.Omega.{arith}
 use lib.IntN.{ℤ}
 use Rattle.little.specs.Writing.{Put}
-use Rattle.lists.proofs.Laws.{every-at, Holding, hold-ends, hold-fails, hold-next}
+use Rattle.lists.specs.Every.{every}
+use Rattle.lists.proofs.Laws.{and-true, every-at, Holding, hold-ends, hold-fails, hold-next}
 use Rattle.codec.specs.Codec.{Codec, Decodable, headers_valid, frames_heard}
 
 -- ---- the check, header by header: those of the channels below i are in range
@@ -22,6 +23,34 @@ module _ {S : Type 0} (k : Codec S) (b : List ℕ) {c i : ℕ} (w : Holding (k.v
 
     pub header-next : r ≡ true → Holding (k.valid c b) c (i + 1)
     header-next f = hold-next w h e f
+
+-- ---- the same straight on, for one channel and for two
+module _ {S : Type 0} (k : Codec S) (b : List ℕ) {c : ℕ} where
+  module _ (l : 1 ≤ c) where
+    pub first-refused : k.valid c b 0 ≡ false → false ≡ headers_valid k c b
+    unfolding headers_valid every
+    first-refused e =
+        let n : c ≡ suc (c - 1) = omega arith in
+        sym (ap (every (k.valid c b) 0) n ∙ simp e)
+
+    pub only-valid : k.valid c b 0 ≡ true → c ≡ 1 → true ≡ headers_valid k c b
+    unfolding headers_valid every
+    only-valid e n = sym (ap (every (k.valid c b) 0) n ∙ simp e)
+
+    pub second-decides : c ≤ 2 → k.valid c b 0 ≡ true → (c ≡ 1 → ⊥) → k.valid c b 1 ≡ headers_valid k c b
+    unfolding headers_valid every
+    second-decides u e n =
+        let m : c ≡ 2 = omega arith in
+        sym (ap (every (k.valid c b) 0) m ∙ ap (λ (x : Bool). x && (k.valid c b 1 && true)) e ∙ and-true (k.valid c b 1))
+
+    -- in the words of the code
+    pub one-valid : k.valid c b 0 ≡ true → c < 2 → true ≡ headers_valid k c b
+    one-valid e h = only-valid e (omega arith)
+
+    pub two-decide : c ≤ 2 → k.valid c b 0 ≡ true → 2 ≤ c → k.valid c b 1 ≡ headers_valid k c b
+    two-decide u e h = second-decides u e (λ n. absurd (omega arith))
+
+pub ruleset checking = (first-refused, one-valid, two-decide)
 
 module _ {S : Type 0} (k : Codec S) (b : List ℕ) {c : ℕ} where
   pub each-valid : headers_valid k c b ≡ true → (ch : ℕ) → ch < c → k.valid c b ch ≡ true

@@ -31,7 +31,7 @@ pub record Single {S : Type 0} (k : Codec S) (Good : S → Type 0) (first second
 module _ {S : Type 0} {k : Codec S} {Good : S → Type 0} {first second : ℕ → ℕ}
     {s : List ℕ} {from frames : ℕ} {out₀ : List ℤ} {at : ℕ} {t₀ : S} where
   module _ {out : List ℤ} {t : S} {n to i : ℕ} (w : Single k Good first second s from frames out₀ at t₀ out t n to i) where
-    single-byte : 2 ≤ n → i < length s
+    pub single-byte : 2 ≤ n → i < length s
     single-byte h = omega (arith, w.bytes)
 
     -- a turn: the two frames of a byte
@@ -60,7 +60,7 @@ module _ {S : Type 0} {k : Codec S} {Good : S → Type 0} {first second : ℕ �
 
     -- an odd frame is the last: the first code of the next byte
     module _ (h : n ≡ 1) where
-      single-last : i < length s
+      pub single-last : i < length s
       single-last = omega (arith, w.bytes)
 
       pub single-odd : {x : S} {p j : ℕ} {u : ℤ} → p ≡ to → j ≡ i → x ≡ k.step t (first (get_or s j 0)) → u ≡ back w16 (k.sample x)

@@ -28,17 +28,20 @@ pub trait BlockCodec {
         ensures { Put out.old at (frames_heard meaning 2 frames block.now) out.new };
 }
 
-// Whether the header of every channel is in range.
+// Whether the header of every channel is in range. The two are tested straight on: a loop over the channels takes twice
+// as long on a file of small blocks.
+#[tactic(auto, using(crate::proofs::Channels::checking))]
 pub fn headers_valid<C: BlockCodec>(block: &[u8], channels: usize) -> bool
     requires { (1 ≤ channels) × (channels ≤ 2) × (C.meaning.header * channels ≤ length block.now) }
     ensures answer { result ≡ headers_valid C.meaning channels block.now }
 {
-    for channel in 0..channels {
-        if !C::header_valid(block, channels, channel) {
-            return false;
-        }
+    if !C::header_valid(block, channels, 0) {
+        return false;
     }
-    true
+    if channels < 2 {
+        return true;
+    }
+    C::header_valid(block, channels, 1)
 }
 
 // Puts the first frames of a block at a place.

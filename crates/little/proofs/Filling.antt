@@ -6,7 +6,7 @@ use native.Mathlib.Nat.{zero-add, add-zero}
 use native.Mathlib.Numerals.{add-one, add-two, add-three}
 use native.Mathlib.Omega.{arith}
 use lib.ListN.{length, take, drop, get_or, set, length-append, length-drop, take-append-drop, drop_of_length-le}
-use lib.Seq.{take_all, take_at, drop_at, drop-drop, length-take-le, drop-cons, sets-eq}
+use lib.Seq.{take-add, take_all, take_at, take-take, take-append-add, take-append-le, drop_at, drop-drop, length-take-le, drop-cons, sets-eq}
 use borrow.Rule.Slice.PartMut.{put_mid}
 use Rattle.little.specs.Writing.{write_at, front, Put}
 
@@ -176,6 +176,26 @@ module _ {A : Type 0} where
   pub drop-next : (s : List A) (i : ℕ) (z : A) → i < length s → drop i s ≡ get_or s i z ∷ drop (i + 1) s
   drop-next s i z h = drop-cons s i z h ∙ ap (λ (k : ℕ). get_or s i z ∷ drop k s) (sym (add-one i))
 
+  -- two parts of ys, put one behind the other, are one: m elements from index i, and n from index j
+  pub put-parts : (ys : List A) {d e g : List A} {at at' : ℕ} (i j m n : ℕ) → Put d at (take m (drop i ys)) e → Put e at' (take n (drop j ys)) g
+      → at' ≡ at + m → j ≡ i + m → at' + n ≤ length d → j + n ≤ length ys → Put d at (take (m + n) (drop i ys)) g
+  put-parts ys {d} {e} {g} {at} {at'} i j m n p q a b r h =
+      subst (λ (l : List A). Put d at l g)
+      (ap (λ (k : ℕ). take m (drop i ys) ++ take n (drop k ys)) b
+      ∙ ap (λ (l : List A). take m (drop i ys) ++ take n l) (sym (drop-drop m i ys))
+      ∙ sym (take-add m n (drop i ys)))
+      (put_next p q (omega (arith, part-long ys i m (omega arith))) (omega (arith, part-long ys j n h)))
+
+  -- four parts of n elements each
+  pub four-parts : (n : ℕ) (ys : List A) {d a b c e : List A} {at at₁ at₂ at₃ : ℕ} (i i₁ i₂ i₃ : ℕ)
+      → Put d at (take n (drop i ys)) a → Put a at₁ (take n (drop i₁ ys)) b → Put b at₂ (take n (drop i₂ ys)) c → Put c at₃ (take n (drop i₃ ys)) e
+      → at₁ ≡ at + n → at₂ ≡ at₁ + n → at₃ ≡ at₂ + n → i₁ ≡ i + n → i₂ ≡ i₁ + n → i₃ ≡ i₂ + n
+      → at₃ + n ≤ length d → i₃ + n ≤ length ys → Put d at (take (n + n + n + n) (drop i ys)) e
+  four-parts n ys i i₁ i₂ i₃ p q r t a₁ a₂ a₃ b₁ b₂ b₃ room h =
+      let v = put-parts ys i i₁ n n p q a₁ b₁ (omega arith) (omega arith) in
+      let w = put-parts ys i i₂ (n + n) n v r (omega arith) (omega arith) (omega arith) (omega arith) in
+      put-parts ys i i₃ (n + n + n) n w t (omega arith) (omega arith) (omega arith) h
+
 -- ---- ys goes to index at of d₀; in d its first i elements are written
 pub record Written {A : Type 0} (ys : List A) (at i : ℕ) (d d₀ : List A) : Type 0 where
   pub room : at + length ys ≤ length d₀
@@ -205,20 +225,77 @@ module _ {A : Type 0} {ys d d₀ : List A} {at i : ℕ} (w : Written ys at i d d
   write-ends h =
       filled_put (subst (λ (l : List A). Filled (take at d₀ ++ ys) l (at + i) d d₀) (drop_of_length-le ys h) w.filled) (omega (arith, w.room))
 
+  -- the next element as it stands
+  pub copy-next : (z : A) → i < length ys → Written ys at (i + 1) (set d (at + i) (get_or ys i z)) d₀
+  copy-next z h = write-next z h refl
+
+  -- k elements more, as they stand
+  pub part_room : (k : ℕ) → k < length ys - i → at + i + k ≤ length d
+  part_room k h = omega (arith, w.room, w.filled.long)
+
+  pub copy-part : (k : ℕ) {e : List A} → k < length ys - i → Put d (at + i) (take k (drop i ys)) e → Written ys at (i + k) e d₀
+  copy-part k h p =
+      let rest : List A = drop i ys in
+      write-piece p
+      (sym (take-append-drop k rest) ∙ ap (λ (m : List A). take k rest ++ m) (drop-drop k i ys))
+      (omega (arith, part-long ys i k (omega arith)))
+      (omega arith)
+
+  -- the first j elements, of those that are written
+  first_part : (j : ℕ) → j ≤ i → take (at + j) d ≡ take at d₀ ++ take j ys
+  first_part j h =
+      let l = length-take-le (at + i) d w.filled.room in
+      let l₀ = length-take-le at d₀ (omega (arith, w.room)) in
+      sym (take-take (at + j) (at + i) d (omega arith))
+      ∙ sym (take-append-le (at + j) (take (at + i) d) (drop i ys) (omega arith))
+      ∙ ap (take (at + j)) w.filled.head
+      ∙ ap (λ (k : ℕ). take (k + j) (take at d₀ ++ ys)) (sym l₀)
+      ∙ take-append-add (take at d₀) ys j
+
+  -- the last k elements, of which some may be written already
+  pub last-room : (k : ℕ) → k ≤ length ys → at + (length ys - k) + k ≤ length d
+  last-room k h = omega (arith, w.room, w.filled.long)
+
+  pub copy-last : (k : ℕ) {e : List A} → k ≤ length ys → length ys - i ≤ k
+      → Put d (at + (length ys - k)) (take k (drop (length ys - k) ys)) e → Put d₀ at ys e
+  unfolding write_at
+  copy-last k {e} h u p =
+      let j : ℕ = length ys - k in
+      let r : List A = drop (at + length ys) d₀ in
+      let l : length (drop j ys) ≡ k = length-drop j ys ∙ omega arith in
+      let n : at + j + length (take k (drop j ys)) ≡ at + i + (length ys - i) = omega (arith, part-long ys j k (omega arith), w.upto) in
+      let m : at + i + (length ys - i) ≡ at + length ys = omega (arith, w.upto) in
+      let t = ap (λ (z : ℕ). drop z d) n ∙ drop_more d d₀ (at + i) (length ys - i) w.filled.tail ∙ ap (λ (z : ℕ). drop z d₀) m in
+      let f = first_part j (omega arith) in
+      let g = take_all k (drop j ys) (omega arith) in
+      record {
+        same =
+            p.same
+            ∙ (λ x. f x ++ g x ++ t x)
+            ∙ ap (λ (z : List A). z ++ r) (append_assoc (take at d₀) (take j ys) (drop j ys) ∙ ap (λ (z : List A). take at d₀ ++ z) (take-append-drop j ys));
+      }
+
 -- ys goes to index at, 128 elements at a turn, and then the rest
 module _ {A : Type 0} (ys : List A) (at : ℕ) {d d₀ : List A} where
+  -- n elements more, from index x on, in a copy over that part of the buffer
+  pub piece-next : {e : List A} (x n : ℕ) → Written ys at x d d₀ → x + n ≤ length ys → e ≡ take (x + n - x) (drop x ys)
+      → Written ys at (x + n) (put_mid (at + x) (at + x + n - (at + x)) d e) d₀
+  piece-next {e} x n w h g =
+      let m : x + n - x ≡ n = omega arith in
+      let q : e ≡ take n (drop x ys) = g ∙ ap (λ (k : ℕ). take k (drop x ys)) m in
+      let l : length e ≡ n = ap length q ∙ part-long ys x n h in
+      write-piece w (put_part (at + x) (at + x + n - (at + x)) (omega arith))
+      (sym (take-append-drop n (drop x ys)) ∙ ap (λ (m : List A). m ++ drop n (drop x ys)) (sym q)
+      ∙ ap (λ (m : List A). e ++ m) (drop-drop n x ys))
+      (omega arith)
+      h
+
   pub turns-next : {e : List A} (i : ℕ) → Written ys at (128 * i) d d₀ → i < length ys / 128 → e ≡ take (128 * i + 128 - 128 * i) (drop (128 * i) ys)
       → Written ys at (128 * (i + 1)) (put_mid (at + 128 * i) (at + 128 * i + 128 - (at + 128 * i)) d e) d₀
   turns-next {e} i w h g =
-      let k : ℕ = 128 * i in
-      let n : k + 128 - k ≡ 128 = omega arith in
-      let q : e ≡ take 128 (drop k ys) = g ∙ ap (λ (m : ℕ). take m (drop k ys)) n in
-      let l : length e ≡ 128 = ap length q ∙ part-long ys k 128 (omega arith) in
-      write-piece w (put_part (at + k) (at + k + 128 - (at + k)) (omega arith))
-      (sym (take-append-drop 128 (drop k ys)) ∙ ap (λ (m : List A). m ++ drop 128 (drop k ys)) (sym q)
-      ∙ ap (λ (m : List A). e ++ m) (drop-drop 128 k ys ∙ ap (λ (j : ℕ). drop j ys) (omega arith)))
-      (omega arith)
-      (omega arith)
+      let n : 128 * i + 128 ≡ 128 * (i + 1) = omega arith in
+      subst (λ (k : ℕ). Written ys at k (put_mid (at + 128 * i) (at + 128 * i + 128 - (at + 128 * i)) d e) d₀) n
+      (piece-next (128 * i) 128 w (omega arith) g)
 
   pub turns-end : {e : List A} (i : ℕ) → Written ys at (128 * i) d d₀ → length ys / 128 ≤ i → i ≤ length ys / 128
       → e ≡ take (length ys - 128 * (length ys / 128)) (drop (128 * (length ys / 128)) ys)
@@ -235,7 +312,45 @@ module _ {A : Type 0} (ys : List A) (at : ℕ) {d d₀ : List A} where
       (omega arith))
       (omega arith)
 
-pub ruleset turning = (turns-next, turns-end)
+  -- the same where the last 128 are copied whole, of which some may be written already
+  pub turns-more : {e : List A} (i : ℕ) → Written ys at (128 * i) d d₀ → i < (length ys - 1) / 128
+      → e ≡ take (128 * i + 128 - 128 * i) (drop (128 * i) ys)
+      → Written ys at (128 * (i + 1)) (put_mid (at + 128 * i) (at + 128 * i + 128 - (at + 128 * i)) d e) d₀
+  turns-more i w h g = turns-next i w (omega arith) g
+
+  pub turns-last : {e : List A} (i : ℕ) → Written ys at (128 * i) d d₀ → (length ys - 1) / 128 ≤ i → 128 ≤ length ys
+      → e ≡ take (length ys - 128 + 128 - (length ys - 128)) (drop (length ys - 128) ys)
+      → Put d₀ at ys (put_mid (at + (length ys - 128)) (at + (length ys - 128) + 128 - (at + (length ys - 128))) d e)
+  turns-last {e} i w k h g =
+      let j : ℕ = length ys - 128 in
+      let n : j + 128 - j ≡ 128 = omega arith in
+      let q : e ≡ take 128 (drop j ys) = g ∙ ap (λ (m : ℕ). take m (drop j ys)) n in
+      let l : length e ≡ 128 = ap length q ∙ part-long ys j 128 (omega arith) in
+      copy-last w 128 h (omega arith)
+      (subst (λ (xs : List A). Put d (at + j) xs (put_mid (at + j) (at + j + 128 - (at + j)) d e)) q (put_part (at + j) (at + j + 128 - (at + j)) (omega arith)))
+
+pub ruleset turning = (turns-next, turns-end, turns-more, turns-last)
+
+pub ruleset copying = (write-begins, write-room, copy-next, write-ends)
+
+-- the first k elements, and then the rest
+pub few-long : {n k : ℕ} → k ≤ 16 → 80 ≤ n → k ≤ n
+few-long h g = omega arith
+
+pub few-room : {A : Type 0} (ys d : List A) (at k : ℕ) → at + length ys ≤ length d → k ≤ length ys → at + length (take k ys) ≤ length d
+few-room ys d at k r h = omega (arith, length-take-le k ys h)
+
+module _ {A : Type 0} {ys d e g : List A} {at : ℕ} where
+  pub copy-both : (k : ℕ) → Put d at (take k ys) e → Put e (at + k) (take (length ys - k) (drop k ys)) g
+      → k ≤ 16 → 80 ≤ length ys → at + length ys ≤ length d → Put d at ys g
+  copy-both k p q l n r =
+      let h = length-take-le k ys (omega arith) in
+      let u = take_all (length ys - k) (drop k ys) (omega (arith, length-drop k ys)) in
+      subst (λ (l : List A). Put d at l g)
+      (ap (λ (l : List A). take k ys ++ l) u ∙ take-append-drop k ys)
+      (put_next p q (omega arith) (omega (arith, ap length u, length-drop k ys)))
+
+pub ruleset few_copying = (few-long, few-room, length-take-le, copy-both)
 
 pub ruleset behind = (first-room, second-room, both_end, next-room, other-room, both-put)
 
@@ -253,3 +368,17 @@ module _ {A : Type 0} {ys d d₀ : List A} {i : ℕ} (w : Written ys 0 i d d₀)
 
   pub front_ends : length ys ≤ i → d ≡ front ys d₀
   front_ends h = put_front (write-ends w h)
+
+-- 128 elements of a buffer as long, sixteen at a turn
+module _ {A : Type 0} (ys : List A) {d d₀ : List A} (n : length ys ≡ 128) where
+  pub sixteens-next : {e : List A} (k : ℕ) → Written ys 0 (16 * k) d d₀ → k < 8 → e ≡ take (16 * k + 16 - 16 * k) (drop (16 * k) ys)
+      → Written ys 0 (16 * (k + 1)) (put_mid (16 * k) (16 * k + 16 - 16 * k) d e) d₀
+  sixteens-next {e} k w h g =
+      let m : 16 * k + 16 ≡ 16 * (k + 1) = omega arith in
+      subst (λ (z : ℕ). Written ys 0 z (put_mid (16 * k) (16 * k + 16 - 16 * k) d e) d₀) m
+      (subst (λ (x : ℕ). Written ys 0 (16 * k + 16) (put_mid x (x + 16 - x) d e) d₀) (zero-add (16 * k)) (piece-next ys 0 (16 * k) 16 w (omega arith) g))
+
+  pub sixteens-end : (k : ℕ) → Written ys 0 (16 * k) d d₀ → 8 ≤ k → length d₀ ≡ 128 → d ≡ ys
+  sixteens-end k w h l = front_ends w (omega arith) ∙ front-whole d₀ ys (omega arith)
+
+pub ruleset sixteens = (front-begins, sixteens-next, sixteens-end)

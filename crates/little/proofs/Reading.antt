@@ -8,8 +8,8 @@ use native.Mathlib.Numerals.{add-one, add-two, add-three}
 use native.Mathlib.Omega.{arith}
 use lib.Dec.{T, ltb, ltb→lt, lt→ltb, lit<}
 use lib.Pow.{are_bytes}
-use lib.ListN.{length, take, drop, get_or, get_or-eq_default}
-use lib.Seq.{take_at, drop-cons, drop-drop}
+use lib.ListN.{length, take, drop, get_or, get_or-eq_default, drop_of_length-le}
+use lib.Seq.{take-nil, take_at, drop-cons, drop-drop}
 use mir.Syntax.{w8, w16, w32}
 use mir.Val.{Fits}
 use mir.Facts.{and_yes, yes_and}
@@ -54,6 +54,10 @@ module _ (s : List ℕ) (at : ℕ) where
 
   pub byte_past : length s ≤ at → 0 ≡ get_or s at 0
   byte_past h = sym (get_or-eq_default s 0 h)
+
+  pub number_past : (n : ℕ) → length s ≤ at → 0 ≡ number_at n s at
+  unfolding number_at number_in
+  number_past n h = sym (ap (λ (l : List ℕ). number_in (take n l)) (drop_of_length-le s h) ∙ ap number_in (take-nil n))
 
 -- the same where the code has read the bytes into bs, by the library's word for the number that they say
 pub two_say : (bs s : List ℕ) (at : ℕ) → ((k : ℕ) → k < 2 → get_or bs k 0 ≡ get_or s (at + k) 0) → from_le_bytes w16 bs ≡ number_at 2 s at

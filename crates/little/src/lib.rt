@@ -22,11 +22,11 @@ fn bytes_at<const N: usize>(bytes: &[u8], at: usize) -> [u8; N]
     found
 }
 
-// The N first bytes, where there are fewer; the others are 0. It is no part of its caller, which is
+// The N first bytes, where there are no more; the others are 0. It is no part of its caller, which is
 // small without it.
 #[inline(never)]
 fn padded<const N: usize>(bytes: &[u8]) -> [u8; N]
-    requires { length bytes.now < N }
+    requires { length bytes.now ≤ N }
     ensures answer { (k : ℕ) → k < N → slice_index result k ≡ slice_index bytes.now k }
 {
     let mut found = [0; N];
@@ -34,15 +34,15 @@ fn padded<const N: usize>(bytes: &[u8]) -> [u8; N]
     found
 }
 
-// The N bytes at any place; what lies past the end counts as 0.
+// The N bytes at any place; what lies past the end counts as 0. The test is a sum that a caller which knows of more
+// room has made already, so that none is left in the walk over a file's chunks.
 fn bytes_or_zeros<const N: usize>(bytes: &[u8], at: usize) -> [u8; N]
     ensures answer { (k : ℕ) → k < N → slice_index result k ≡ slice_index bytes.now (at + k) }
 {
-    let rest = &bytes[at.min(bytes.len())..];
-    if rest.len() < N {
-        return padded(rest);
+    if at < bytes.len() && at + N <= bytes.len() {
+        return bytes_at(bytes, at);
     }
-    bytes_at(rest, 0)
+    padded(&bytes[at.min(bytes.len())..])
 }
 
 // The 16-bit number at a place.
@@ -79,24 +79,47 @@ pub fn u32_or_zero(bytes: &[u8], at: usize) -> u32
     u32::from_le_bytes(bytes_or_zeros(bytes, at))
 }
 
-// Copies 128 bytes. They are all read before the first is written, so that a machine can move
-// several as one.
-fn put_many(out: &mut [u8], bytes: &[u8])
-    requires { (length bytes.now ≡ 128) × (length out.old ≡ 128) }
+// Copies sixteen bytes. They are all read before the first is written, so that a machine can move them as one.
+fn put_sixteen(out: &mut [u8], bytes: &[u8])
+    requires { (length bytes.now ≡ 16) × (length out.old ≡ 16) }
     ensures buffer { out.new ≡ bytes.now }
 {
-    let mut read = [0; 128];
+    let mut read = [0; 16];
     read.copy_from_slice(bytes);
     out.copy_from_slice(&read);
 }
 
-// Copies a run of bytes to a place, 128 at a turn. The library's copy of the whole, which is memcpy, takes more
-// instructions, and a song added to a side then more than 1.1 of a copy.
-pub fn put_bytes(out: &mut [u8], at: usize, bytes: &[u8])
+// Copies 128 bytes, sixteen after sixteen: the compiler would store one array of 128 from its end to its start, which
+// a machine does more slowly.
+fn put_many(out: &mut [u8], bytes: &[u8])
+    requires { (length bytes.now ≡ 128) × (length out.old ≡ 128) }
+    ensures buffer { out.new ≡ bytes.now }
+{
+    for k in 0..8 {
+        let from = 16 * k;
+        put_sixteen(&mut out[from..from + 16], &bytes[from..from + 16]);
+    }
+}
+
+// Copies a run of bytes to a place, byte by byte.
+fn put_few(out: &mut [u8], at: usize, bytes: &[u8])
     requires { at + length bytes.now ≤ length out.old }
     ensures buffer { Put out.old at bytes.now out.new }
 {
-    let turns = bytes.len() / 128;
+    for i in 0..bytes.len() {
+        out[at + i] = bytes[i];
+    }
+}
+
+// Copies a run of bytes to a place, 128 at a turn. The last 128 are then copied whole, some perhaps a second time, so
+// that none is left over. The library's copy of the whole, which is memcpy, takes more instructions, and a song added
+// to a side then more than 1.1 of a copy.
+fn put_turns(out: &mut [u8], at: usize, bytes: &[u8])
+    requires bytes_in_bounds { at + length bytes.now ≤ length out.old }
+    requires in_bounds { 128 ≤ length bytes.now }
+    ensures buffer { Put out.old at bytes.now out.new }
+{
+    let turns = (bytes.len() - 1) / 128;
     for i in 0..turns {
         let from = 128 * i;
         put_many(
@@ -104,8 +127,34 @@ pub fn put_bytes(out: &mut [u8], at: usize, bytes: &[u8])
             &bytes[from..from + 128],
         );
     }
-    let rest = 128 * turns;
-    out[at + rest..at + bytes.len()].copy_from_slice(&bytes[rest..]);
+    let last = bytes.len() - 128;
+    put_many(
+        &mut out[at + last..at + last + 128],
+        &bytes[last..last + 128],
+    );
+}
+
+// How many bytes there are from a place to a multiple of sixteen behind it.
+fn to_sixteen(at: usize) -> usize
+    ensures bound { result ≤ 16 }
+{
+    16 - at % 16
+}
+
+// Copies a run of bytes to a place. The first few go ahead of the turns, which then start at a multiple of sixteen
+// of the lent buffer, where a machine stores fastest: the sound of a file never stands at one.
+#[tactic(auto, using(crate::proofs::Filling::few_copying))]
+pub fn put_bytes(out: &mut [u8], at: usize, bytes: &[u8])
+    requires { at + length bytes.now ≤ length out.old }
+    ensures buffer { Put out.old at bytes.now out.new }
+{
+    if bytes.len() < 144 {
+        put_few(out, at, bytes);
+        return;
+    }
+    let few = to_sixteen(at);
+    put_few(out, at, &bytes[..few]);
+    put_turns(out, at + few, &bytes[few..]);
 }
 
 // Puts a 16-bit number at a place.

@@ -55,10 +55,10 @@ module _ {t : MsState} (g : Tame t) (n : SFits w16 t.newer) (o : SFits w16 t.old
 
   -- the samples are read as u and v
   module _ {u v : ℤ} (p : u ≡ back w16 t.newer) (q : v ≡ back w16 t.older) (a : SFits w32 t.first) (b : SFits w32 t.second) where
-    newer-fits : SFits w32 (worked u t.first)
+    pub newer-fits : SFits w32 (worked u t.first)
     newer-fits = rw (worked-is n p a) (near_fits near-newer tt)
 
-    older-fits : SFits w32 (worked v t.second)
+    pub older-fits : SFits w32 (worked v t.second)
     older-fits = rw (worked-is o q b) (near_fits near-older tt)
 
     abbrev sum : ℤ
@@ -74,7 +74,7 @@ module _ {t : MsState} (g : Tame t) (n : SFits w16 t.newer) (o : SFits w16 t.old
     unfolding predicted
     quotient_is = rw (to_z-of_z sum_fits, sum_is) refl
 
-    quotient_fits : SFits w32 (quot_z (back w32 sum) (pos 256))
+    pub quotient_fits : SFits w32 (quot_z (back w32 sum) (pos 256))
     quotient_fits = rw quotient_is (near_fits near-predicted tt)
 
     pub predicted-is : back w32 (quot_z (back w32 sum) (pos 256)) ≡ predicted t

@@ -161,9 +161,13 @@ module _ (s : List ℕ) {spot : Spot} (t : spot ≡ titles_spot s) where
   texts-absent d h =
       ap (λ (ys : List ℕ). front ys d) (sym texts-there ∙ ap (λ (l : List ℕ). texts_of (entries_in l)) (absent s spot h) ∙ none-texts)
 
-  -- and the record has no titles
-  pub titles-absent : {m : Record} → reading s ≡ Ok m → is_there spot ≡ false → m.titles ≡ no_titles
-  titles-absent a h = sym (ap (λ (x : Reading). (record_in x).titles) a) ∙ known.none h
+  -- and the record has no titles, of a file that is refused too
+  pub titles-absent : {r : Reading} {b : Bool} → r ≡ reading s → b ≡ is_there spot → b ≡ false → (record_in r).titles ≡ no_titles
+  titles-absent a e h = ap (λ (x : Reading). (record_in x).titles) a ∙ known.none (sym e ∙ h)
+
+  -- the same of the record of a file that is taken
+  pub untitled-taken : {m : Record} → reading s ≡ Ok m → is_there spot ≡ false → m.titles ≡ no_titles
+  untitled-taken a h = titles-absent (sym a) refl h
 
   pub list-short : length (part_of s spot []) ≤ file_limit
   list-short = known.short

@@ -78,6 +78,13 @@ is-add {z = negsuc m} {w = negsuc n} h k = omega arith
 pub is-minus : {z w : ℤ} {a b c d : ℕ} → Is z a b → Is w c d → Is (z -ℤ w) (a + d) (b + c)
 is-minus h k = is-add h (is-neg k)
 
+pub is-times : {z : ℤ} {a b : ℕ} (k : ℕ) → Is z a b → Is (z *ℤ pos k) (a * k) (b * k)
+is-times {z = pos n} {a} {b} k h = record { is = ap (λ (m : ℕ). m * k) h.is ∙ add-mul b n k }
+is-times {z = negsuc n} {a} {b} k h =
+    let e : b ≡ a + suc n = omega arith in
+    let f : b * k ≡ a * k + suc n * k = ap (λ (m : ℕ). m * k) e ∙ add-mul a (suc n) k in
+    is-shift (a * k) (b * k) (is-neg (is_pos (suc n * k))) (omega arith)
+
 -- the magnitude
 pub is-abs : {z : ℤ} {a b : ℕ} → Is z a b → nat_abs z ≡ (a - b) + (b - a)
 is-abs {z = pos n} h = omega arith
@@ -106,6 +113,9 @@ is_lt {z = negsuc m} {w = negsuc n} {a} {b} {c} {d} h k = leb-same (suc n) m (su
 
 pub less : {z w : ℤ} {a b c d : ℕ} → Is z a b → Is w c d → lt_z z w ≡ true → a + d < c + b
 less {a = a} {b} {c} {d} h k e = ltb-true (a + d) (c + b) (sym (is_lt h k) ∙ e)
+
+pub not-less : {z w : ℤ} {a b c d : ℕ} → Is z a b → Is w c d → lt_z z w ≡ false → c + b ≤ a + d
+not-less {a = a} {b} {c} {d} h k e = ltb-false (a + d) (c + b) (sym (is_lt h k) ∙ e)
 
 pub not_negative : {z : ℤ} {a b : ℕ} → Is z a b → b ≤ a → T (non_neg z)
 not_negative {z = pos n} h g = tt
@@ -166,13 +176,24 @@ near_fits {w} {z} {n} h t =
     let p = apart z in
     fits w p.is (omega (arith, h.near, p.abs, ltb→lt n (2 ^ hbits w) t)) (omega (arith, h.near, p.abs, ltb→lt n (2 ^ hbits w) t))
 
+pub near-narrow : {v : Width} {z : ℤ} {n : ℕ} → Near z n → T (ltb n (2 ^ bits v)) → Fits v (nat_abs z)
+near-narrow {v} {z} {n} h t = record { fits = lt_of_le_of_lt h.near (ltb→lt n (2 ^ bits v) t) }
+
 pub fits-near : {w : Width} {z : ℤ} → SFits w z → Near z (2 ^ hbits w)
 fits-near {w} {z} f = let p = signed w f in record { near = omega (arith, is-abs p.is, p.low, p.high) }
+
+pub near-read : {w : Width} {z : ℤ} {n : ℕ} → SFits w z → Near z n → Near (back w z) n
+near-read f h = rw (to_z-of_z f) h
 
 pub near-pos : {n m : ℕ} → n ≤ m → Near (pos n) m
 near-pos h = record { near = h }
 
 -- an unsigned number of a narrower width, cast
+pub near-cast : (w v : Width) {n : ℕ} → Fits v n → T (leb (bits v) (hbits w)) → Near (to_z w n) (2 ^ bits v)
+near-cast w v {n} f t =
+    let h : n < 2 ^ hbits w = lt_of_lt_of_le f.fits (pow_mono (leb→le (bits v) (hbits w) t)) in
+    rw (to_z_pos w h) (near-pos (le_of_lt f.fits))
+
 pub near_add : {x y : ℤ} {a b : ℕ} → Near x a → Near y b → Near (x +ℤ y) (a + b)
 near_add {x} {y} h k =
     let p = apart x in
@@ -205,3 +226,7 @@ abs-quot (negsuc a) k = abs_neg (pos (suc a / k))
 
 pub near-quot : {x : ℤ} {a : ℕ} (k n : ℕ) → T (leb a (k * n)) → Near x a → Near (quot_z x (pos k)) n
 near-quot {x} {a} k n t h = record { near = rw abs-quot (div-le_of_le-mul k (le_trans h.near (leb→le a (k * n) t))) }
+
+-- an unsigned number of a narrower width, cast, and less a constant
+pub cast-less : (w v : Width) {n : ℕ} (k : ℕ) → Fits v n → T (leb (bits v) (hbits w)) → T (ltb (2 ^ bits v + k) (2 ^ hbits w)) → SFits w (to_z w n -ℤ pos k)
+cast-less w v k f t s = near_fits (near_sub (near-cast w v f t) (near-pos (le_refl k))) s

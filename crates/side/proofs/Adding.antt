@@ -187,11 +187,11 @@ module _ (s t : List ℕ) (number : Donation) (limit : Frames) (room : ℕ) wher
       made_so : g ≡ new_record s t number
       made_so = h ∙ (λ i. with_song (record_in (sym a i)) number (record_in (sym b i)).frames)
 
-      add_titles : g.titles ≡ (record_in (reading s)).titles
+      pub add_titles : g.titles ≡ (record_in (reading s)).titles
       unfolding with_song
       add_titles = ap (λ (m : Record). m.titles) made_so
 
-      add_right : right_titles g (texts_in s) ≡ true
+      pub add_right : right_titles g (texts_in s) ≡ true
       add_right =
           let y : Sent = record { file = t; number = number; limit = limit; room = 0 } in
           let k = verdict-says (reading s) (sound_in s) (reading t) (sound_in t) number limit (judged_so ∙ f) in

@@ -21,7 +21,7 @@ use Rattle.riff.specs.Walk.{part_of, start_of}
 use Rattle.rules.specs.declared.Record.{Record}
 use Rattle.reader.specs.Content.{reading, sound_spot, sound_in, sound_start, texts_in}
 use Rattle.reader.proofs.Demands.{sound-placed}
-use Rattle.reader.proofs.Titles.{few-titles, texts-end, titles-absent}
+use Rattle.reader.proofs.Titles.{few-titles, texts-end, untitled-taken}
 use Rattle.writer.specs.File.{file_of, writing, written_verdict, Written}
 use Rattle.decode.specs.Decoding as decodes
 use Rattle.encode.specs.declared.Coded.{Coded}
@@ -156,7 +156,7 @@ module _ (n words room : ℕ) where
           by false = refl
 
 pub ruleset putting =
-    (refused-number, refused-kept, taken-number, taken-kept, few_words, room-short, room-kept, room-enough, texts-lent, few-titles, texts-end, titles-absent)
+    (refused-number, refused-kept, taken-number, taken-kept, few_words, room-short, room-kept, room-enough, texts-lent, few-titles, texts-end, untitled-taken)
 
 -- the reader's refusals first, here too
 module _ (s : List ℕ) (words room : ℕ) where

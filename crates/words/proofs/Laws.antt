@@ -142,7 +142,7 @@ module _ (cues : List Cue) (plays : List Play) (h : length cues ≡ 64) (l : len
   pub tables-long : length (entry_bytes cue_words cues ++ entry_bytes play_words plays) ≡ 384
   tables-long = omega (arith, cues-long, plays-long, length-append (entry_bytes cue_words cues) (entry_bytes play_words plays))
 
-  tables-put : {d e f : List ℕ} → 393 ≤ length d → Put d 9 (entry_bytes cue_words cues) e → Put e 201 (entry_bytes play_words plays) f
+  pub tables-put : {d e f : List ℕ} → 393 ≤ length d → Put d 9 (entry_bytes cue_words cues) e → Put e 201 (entry_bytes play_words plays) f
       → Put d 9 (entry_bytes cue_words cues ++ entry_bytes play_words plays) f
   tables-put r p q = put_next p q (omega (arith, cues-long)) (omega (arith, cues-long, plays-long))
 
